@@ -67,10 +67,11 @@ mod tests {
     #[test]
     fn the_fewest_words_open_for_any_capacity() -> Result<(), Fail> {
         let mut words = [1u64; 128];
-        for cap in [0, 127, 128, 129, u64::MAX] {
-            check_eq(opened(&mut words, cap), (128, 1280))?;
-        }
-        Ok(())
+        check_eq(opened(&mut words, 0), (128, 1280))?;
+        check_eq(opened(&mut words, 127), (128, 1280))?;
+        check_eq(opened(&mut words, 128), (128, 1280))?;
+        check_eq(opened(&mut words, 129), (128, 1280))?;
+        check_eq(opened(&mut words, u64::MAX), (128, 1280))
     }
 
     #[test]
@@ -87,12 +88,15 @@ mod tests {
 
     #[test]
     fn other_numbers_of_words_stay_closed() -> Result<(), Fail> {
+        check_eq(opened(&mut [0u64; 0], 5), (0, 0))?;
+        check_eq(opened(&mut [3u64; 1], 5), (0, 0))?;
+        check_eq(opened(&mut [3u64; 127], 5), (0, 0))?;
+        check_eq(opened(&mut [3u64; 200], 5), (0, 0))
+    }
+
+    #[test]
+    fn a_closed_sketch_counts_nothing() -> Result<(), Fail> {
         let mut words = [3u64; 200];
-        check_eq(opened(&mut words[0..0], 5), (0, 0))?;
-        check_eq(opened(&mut words[0..1], 5), (0, 0))?;
-        check_eq(opened(&mut words[0..64], 5), (0, 0))?;
-        check_eq(opened(&mut words[0..127], 5), (0, 0))?;
-        check_eq(opened(&mut words, 5), (0, 0))?;
         let mut sketch = FrequencySketch::new(&mut words);
         sketch.ensure_capacity(200);
         check_eq(sketch.increment(1), Increment::Closed)?;
