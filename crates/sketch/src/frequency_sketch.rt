@@ -12,6 +12,7 @@ use crate::FrequencySketch;
 use crate::counters;
 use crate::increment::Increment;
 use crate::meter::Meter;
+use crate::table;
 use crate::table::Table;
 
 impl<'a> FrequencySketch<'a> {
@@ -71,6 +72,13 @@ impl<'a> FrequencySketch<'a> {
     {
         let size = self.table.meter.size;
         self.table.reset(size);
+    }
+
+    /// Whether a sketch opens over this many lent words: a power of two from 128 to 8,192.
+    pub fn opens_over(lent: usize) -> bool
+        ensures { λ r. ⌜ r ≡ opens-over lent ⌝ }
+    {
+        table::opens_over(lent)
     }
 
     /// How many words the table has: none while the sketch is closed.

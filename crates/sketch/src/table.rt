@@ -112,7 +112,7 @@ impl Table<'_> {
 }
 
 /// Whether a sketch opens over this many lent words.
-fn opens_over(lent: usize) -> bool
+pub fn opens_over(lent: usize) -> bool
     ensures { λ r. ⌜ r ≡ opens-over lent ⌝ }
 {
     if lent < 128 || lent > 8192 {

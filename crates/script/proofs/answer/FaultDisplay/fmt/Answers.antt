@@ -1,0 +1,10 @@
+use Rattle.script.proofs.answer.FaultDisplay.fmt.Needs as need
+
+pub returns-in-UnknownCommand : need.returns-in-UnknownCommand
+returns-in-UnknownCommand g c = simp (c .in-UnknownCommand .is) (c .write-str .ensures .prints)
+
+pub returns-in-WrongWords : need.returns-in-WrongWords
+returns-in-WrongWords g c = simp (c .in-WrongWords .is) (c .write-str-in-WrongWords .ensures .prints)
+
+pub returns-in-NoSketch : need.returns-in-NoSketch
+returns-in-NoSketch g c = simp (c .in-NoSketch .is) (c .write-str-in-NoSketch .ensures .prints)

@@ -1,0 +1,5 @@
+pub mod Numerals
+pub mod Lines
+pub mod Readings
+pub mod Texts
+pub mod Runs
