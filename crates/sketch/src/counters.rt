@@ -16,6 +16,9 @@ const SEED: [u64; 4] = [
     0xcbf2_9ce4_8422_2325,
 ];
 
+/// The largest number that a counter holds.
+const MOST: u64 = 15;
+
 /// The low three bits of each counter.
 const RESET_MASK: u64 = 0x7777_7777_7777_7777;
 
@@ -36,7 +39,7 @@ fn counter_of(word: u64, number: u32) -> u64
     requires { ⌜ number < 16 ⌝ }
     ensures { λ r. ⌜ r ≡ counter word number ⌝ }
 {
-    (word >> (4 * number)) & 15
+    (word >> (4 * number)) & MOST
 }
 
 /// The word of a hash at a depth, in a table of `len` words.
@@ -57,7 +60,7 @@ pub fn estimate_in(table: &[u64], hash: u64) -> u8
     ensures { λ r. ⌜ r ≡ estimate (now (table .entry)) hash ⌝ }
 {
     let start = 4 * (hash & 3) as u32;
-    let mut least = 15;
+    let mut least = MOST;
     for depth in 0..4 {
         let word = table[index_of(hash, depth, table.len())];
         least = counter_of(word, start + depth as u32).min(least);
@@ -72,7 +75,7 @@ fn increment_at(table: &mut [u64], index: usize, number: u32) -> bool
     ensures rose { λ r. ⌜ r ≡ ltb (counter (getD (now (table .entry)) index 0) number) most ⌝ }
 {
     let word = table[index];
-    if counter_of(word, number) < 15 {
+    if counter_of(word, number) < MOST {
         table[index] = word + (1 << (4 * number));
         true
     } else {

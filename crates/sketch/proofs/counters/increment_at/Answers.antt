@@ -16,8 +16,8 @@ add-table c =
     let l : counter w (c .args .number) < 15 = omega arith in
     fits-of-lt (raise-fits w (c .args .number) f (c .pre .1) l)
 
-pub returns-then-counter-of-lt15 : need.returns-then-counter-of-lt15
-returns-then-counter-of-lt15 c =
+pub returns-then-counter-of-lt-MOST : need.returns-then-counter-of-lt-MOST
+returns-then-counter-of-lt-MOST c =
     let w : ℕ = getD (c .args .table .now) (c .args .index) 0 in
     let l : counter w (c .args .number) < 15 = omega arith in
     record {
@@ -25,8 +25,8 @@ returns-then-counter-of-lt15 c =
       rose = sym (lt-ltb (counter w (c .args .number)) 15 l);
     }
 
-pub returns-else-counter-of-lt15 : need.returns-else-counter-of-lt15
-returns-else-counter-of-lt15 c =
+pub returns-else-counter-of-lt-MOST : need.returns-else-counter-of-lt-MOST
+returns-else-counter-of-lt-MOST c =
     let w : ℕ = getD (c .args .table .now) (c .args .index) 0 in
     let l : 15 ≤ counter w (c .args .number) = omega arith in
     record {
