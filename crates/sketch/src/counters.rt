@@ -26,7 +26,7 @@ const RESET_MASK: u64 = 0x7777_7777_7777_7777;
 const ONE_MASK: u64 = 0x1111_1111_1111_1111;
 
 /// The least power of two that is not below `m`.
-pub fn least_power_of_two(m: u64) -> u64
+pub(crate) fn least_power_of_two(m: u64) -> u64
     requires { ⌜ 128 ≤ m ⌝ ∗ ⌜ m ≤ 8192 ⌝ }
     ensures is { λ r. ⌜ r ≡ least-power m ⌝ }
     ensures least { λ r. ⌜ Least-power m r ⌝ }
@@ -55,7 +55,7 @@ fn index_of(hash: u64, depth: usize, len: usize) -> usize
 }
 
 /// The estimate of a hash: the least of its four counters.
-pub fn estimate_in(table: &[u64], hash: u64) -> u8
+pub(crate) fn estimate_in(table: &[u64], hash: u64) -> u8
     requires { ⌜ Power-of-two (length (now table)) ⌝ }
     ensures { λ r. ⌜ r ≡ estimate (now (table .entry)) hash ⌝ }
 {
@@ -84,7 +84,7 @@ fn increment_at(table: &mut [u64], index: usize, number: u32) -> bool
 }
 
 /// Raises each of the four counters of a hash that is below 15, and says whether one rose.
-pub fn raise_in(table: &mut [u64], hash: u64) -> bool
+pub(crate) fn raise_in(table: &mut [u64], hash: u64) -> bool
     requires { ⌜ Power-of-two (length (now table)) ⌝ }
     ensures words { λ _. ⌜ now (table .exit) ≡ raised-all (now (table .entry)) hash ⌝ }
     ensures rose { λ r. ⌜ r ≡ rises (now (table .entry)) hash ⌝ }
@@ -99,7 +99,7 @@ pub fn raise_in(table: &mut [u64], hash: u64) -> bool
 }
 
 /// Halves every counter, rounding down, and says how many were odd.
-pub fn halve_in(table: &mut [u64]) -> u64
+pub(crate) fn halve_in(table: &mut [u64]) -> u64
     ensures words { λ _. ⌜ now (table .exit) ≡ halved-all (now (table .entry)) ⌝ }
     ensures odd { λ r. ⌜ r ≡ odds-all (now (table .entry)) ⌝ }
 {
@@ -112,7 +112,7 @@ pub fn halve_in(table: &mut [u64]) -> u64
 }
 
 /// Makes every counter 0.
-pub fn clear(table: &mut [u64])
+pub(crate) fn clear(table: &mut [u64])
     ensures { λ _. ⌜ now (table .exit) ≡ replicate (length (now (table .entry))) 0 ⌝ }
 {
     for word in table.iter_mut() {

@@ -20,7 +20,7 @@ pub struct Table<'a> {
 
 impl Table<'_> {
     /// Opens for `cap`, unless the table is large enough or the number of lent words is none that opens.
-    pub fn ensure_capacity(&mut self, cap: u64)
+    pub(crate) fn ensure_capacity(&mut self, cap: u64)
         requires { ⌜ Fits (now self) ⌝ }
         ensures { λ _. ⌜ Becomes (now (self .entry)) (now (self .exit)) (ensured (length (lent-words (now (self .entry)))) cap (sketch-in (now (self .entry)))) ⌝ }
     {
@@ -53,7 +53,7 @@ impl Table<'_> {
     }
 
     /// The estimate of a hash, 0 without words.
-    pub fn frequency(&self, hash: u64) -> u8
+    pub(crate) fn frequency(&self, hash: u64) -> u8
         requires { ⌜ Fits (now self) ⌝ }
         ensures { λ r. ⌜ r ≡ frequency (sketch-in (now (self .entry))) hash ⌝ }
     {
@@ -66,7 +66,7 @@ impl Table<'_> {
     }
 
     /// Counts a hash once more, and says what that came to.
-    pub fn increment(&mut self, hash: u64) -> Increment
+    pub(crate) fn increment(&mut self, hash: u64) -> Increment
         requires { ⌜ Fits (now self) ⌝ }
         ensures answer { λ r. ⌜ r ≡ outcome (sketch-in (now (self .entry))) hash ⌝ }
         ensures memory { λ _. ⌜ Becomes (now (self .entry)) (now (self .exit)) (incremented (sketch-in (now (self .entry))) hash) ⌝ }
@@ -100,7 +100,7 @@ impl Table<'_> {
     }
 
     /// Halving, where `size` of the sample are counted.
-    pub fn reset(&mut self, size: u64)
+    pub(crate) fn reset(&mut self, size: u64)
         requires fits { ⌜ Fits (now self) ⌝ }
         requires size { ⌜ size ≤ now self .meter .«sample_size» ⌝ }
         ensures { λ _. ⌜ Becomes (now (self .entry)) (now (self .exit)) (halved-sketch (with-size (sketch-in (now (self .entry))) size)) ⌝ }
@@ -112,7 +112,7 @@ impl Table<'_> {
 }
 
 /// Whether a sketch opens over this many lent words.
-pub fn opens_over(lent: usize) -> bool
+pub(crate) fn opens_over(lent: usize) -> bool
     ensures { λ r. ⌜ r ≡ opens-over lent ⌝ }
 {
     if lent < 128 || lent > 8192 {
