@@ -1,5 +1,8 @@
 pub mod Numerals
 pub mod Lines
-pub mod Readings
-pub mod Texts
 pub mod Runs
+pub mod Readings
+pub mod SketchLines
+pub mod QueueLines
+pub mod LineReadings
+pub mod Texts

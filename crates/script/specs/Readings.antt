@@ -1,4 +1,4 @@
--- What a line asks for, as its words say.
+-- The words behind a command, and what a command asks for with them.
 use mathlib.Core.Bool.{Bool, true, false, cond}
 use mathlib.Core.List.{List, [], _∷_}
 use Prim.Native.Nat.{ℕ}
@@ -9,13 +9,8 @@ use Rattle.std.specs.shelf.Text.{sameBytes}
 use Rattle.std.specs.declared.option.Option.{Option}
 use Rattle.std.specs.declared.option.Option.the-variants.{Some, None}
 use Rattle.script.specs.declared.command.Command.{Command}
-use Rattle.script.specs.declared.command.Command.the-variants.{MakeSketch, Sketch}
-use Rattle.script.specs.declared.command.SketchCommand.the-variants.{Open, Count, Estimate}
-use Rattle.script.specs.declared.command.Line.{Line}
-use Rattle.script.specs.declared.command.Line.the-variants.{Comment, Ask, Wrong}
-use Rattle.script.specs.declared.command.Fault.the-variants.{UnknownCommand, WrongWords}
-use Rattle.script.specs.declared.verb.Verb.{Verb}
-use Rattle.script.specs.declared.verb.Verb.the-variants.{SketchWords, OpenFor, CountHash, EstimateHash}
+use Rattle.script.specs.declared.command.Reading.{Reading}
+use Rattle.script.specs.declared.command.Reading.the-variants.{Unknown, Wrong, Asks}
 use Rattle.script.specs.Numerals.{numeral}
 
 -- ---- the words behind a command
@@ -43,38 +38,40 @@ only-number ws = in-word (only ws) numeral
 abbrev pub only-field : List ℕ → List (List ℕ) → Option ℕ
 only-field name ws = in-word (only ws) (field name)
 
--- what a command asks for with a number, where there is one
-abbrev pub with-number : Option ℕ → (ℕ → Command) → Line
-with-number None f = Wrong WrongWords
-with-number (Some n) f = Ask (f n)
+-- the two numbers that the only two words say
+abbrev pub both : Option ℕ → Option ℕ → Option (ℕ × ℕ)
+both None n = None
+both (Some m) None = None
+both (Some m) (Some n) = Some (m, n)
 
--- ---- a line
+abbrev pub only-pair : List (List ℕ) → Option (ℕ × ℕ)
+only-pair [] = None
+only-pair (w ∷ ws) = both (numeral w) (only-number ws)
 
--- the command that a first word names
-abbrev pub verb-of : List ℕ → Option Verb
-verb-of w =
-    cond (sameBytes w (codes "sketch")) (Some SketchWords)
-    (cond (sameBytes w (codes "open")) (Some OpenFor)
-    (cond (sameBytes w (codes "count")) (Some CountHash)
-    (cond (sameBytes w (codes "estimate")) (Some EstimateHash) None)))
+-- whether there is no word
+abbrev pub none-left : List (List ℕ) → Bool
+none-left [] = true
+none-left (w ∷ ws) = false
 
--- what a command asks for with the words behind it
-abbrev pub asked : Verb → List (List ℕ) → Line
-asked SketchWords ws = with-number (only-field (codes "words=") ws) MakeSketch
-asked OpenFor ws = with-number (only-number ws) (λ n. Sketch (Open n))
-asked CountHash ws = with-number (only-number ws) (λ n. Sketch (Count n))
-asked EstimateHash ws = with-number (only-number ws) (λ n. Sketch (Estimate n))
+-- ---- what is asked for
 
-abbrev pub named : Option Verb → List (List ℕ) → Line
-named None ws = Wrong UnknownCommand
-named (Some v) ws = asked v ws
+-- a command that takes one number
+abbrev pub asking : Option ℕ → (ℕ → Command) → Reading
+asking None f = Wrong
+asking (Some n) f = Asks (f n)
 
--- whether a first word makes its line a comment: it begins with `#`
-abbrev pub comment-word : List ℕ → Bool
-comment-word [] = false
-comment-word (b ∷ bs) = eqb b 35
+-- a command that takes two
+abbrev pub asking-pair : Option (ℕ × ℕ) → (ℕ → ℕ → Command) → Reading
+asking-pair None f = Wrong
+asking-pair (Some p) f = Asks (f (p .0) (p .1))
 
--- what a line asks for
-abbrev pub line-of : List (List ℕ) → Line
-line-of [] = Comment
-line-of (w ∷ ws) = cond (comment-word w) Comment (named (verb-of w) ws)
+-- a command that takes no word
+abbrev pub asking-alone : List (List ℕ) → Command → Reading
+asking-alone [] c = Asks c
+asking-alone (w ∷ ws) c = Wrong
+
+-- what one reader makes of a line, or another where the first knows no such command
+abbrev pub or-else : Reading → Reading → Reading
+or-else Unknown r = r
+or-else Wrong r = Wrong
+or-else (Asks c) r = Asks c

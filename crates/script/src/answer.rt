@@ -1,6 +1,6 @@
 //! What a line is answered.
 ghost use Rattle.std.specs.declared.option.Option.the-variants.{Some};
-ghost use Rattle.script.specs.Texts.{text, reason};
+ghost use Rattle.script.specs.Texts.{text, reason, item-text};
 use crate::command::Fault;
 use std::fmt;
 
@@ -25,6 +25,26 @@ pub enum Answer {
     Full(u64),
     /// A hash was seen so often.
     Estimate(u8),
+    /// The node is linked behind all others.
+    Pushed,
+    /// This node was the front, with this element, and is out.
+    Popped(usize, u64),
+    /// This node is the front, with this element.
+    Front(usize, u64),
+    /// No node is linked.
+    Empty,
+    /// The node stands behind all others.
+    Moved,
+    /// The node is out.
+    Unlinked,
+    /// This node stands behind the one asked for.
+    Next(usize),
+    /// No node stands behind the one asked for.
+    Last,
+    /// It is so.
+    Yes,
+    /// It is not so.
+    No,
 }
 
 pub impl fmt::Display for Answer as AnswerDisplay {
@@ -41,6 +61,16 @@ pub impl fmt::Display for Answer as AnswerDisplay {
             Answer::Halved(size) => write!(f, "halved {size}"),
             Answer::Full(size) => write!(f, "full {size}"),
             Answer::Estimate(least) => write!(f, "estimate {least}"),
+            Answer::Pushed => f.write_str("pushed"),
+            Answer::Popped(node, x) => write!(f, "popped {node} {x}"),
+            Answer::Front(node, x) => write!(f, "front {node} {x}"),
+            Answer::Empty => f.write_str("empty"),
+            Answer::Moved => f.write_str("moved"),
+            Answer::Unlinked => f.write_str("unlinked"),
+            Answer::Next(node) => write!(f, "next {node}"),
+            Answer::Last => f.write_str("last"),
+            Answer::Yes => f.write_str("yes"),
+            Answer::No => f.write_str("no"),
         }
     }
 }
@@ -53,6 +83,25 @@ pub impl fmt::Display for Fault as FaultDisplay {
             Fault::UnknownCommand => f.write_str("no such command"),
             Fault::WrongWords => f.write_str("wrong words for this command"),
             Fault::NoSketch => f.write_str("no sketch was made last"),
+            Fault::NoQueue => f.write_str("no queue was made last"),
+            Fault::TooLarge => f.write_str("more memory than there is to lend"),
         }
+    }
+}
+
+/// One of the linked nodes in a list, with its element.
+#[derive(Clone, Copy)]
+pub struct Item {
+    pub node: usize,
+    pub element: u64,
+}
+
+pub impl fmt::Display for Item as ItemDisplay {
+    ghost shown = { λ i. Some (item-text i) };
+
+    fn fmt<W: fmt::Write>(&self, f: &mut fmt::Formatter<W>) -> fmt::Result {
+        let node = self.node;
+        let element = self.element;
+        write!(f, " {node}:{element}")
     }
 }

@@ -1,10 +1,4 @@
 //! What a line asks for.
-ghost use mathlib.Core.Path.{_≡_};
-ghost use Rattle.script.specs.Lines.{words as words-of};
-ghost use Rattle.script.specs.Readings.{line-of, asked, comment-word};
-use crate::verb::Verb;
-use crate::verb::verb_of;
-use crate::words::Words;
 
 /// What is asked of a sketch.
 #[derive(Clone, Copy)]
@@ -17,6 +11,25 @@ pub enum SketchCommand {
     Estimate(u64),
 }
 
+/// What is asked of a queue.
+#[derive(Clone, Copy)]
+pub enum QueueCommand {
+    /// Link a node with an element behind all others.
+    Push(u64, u64),
+    /// Take the front out.
+    Pop,
+    /// Say what stands at the front.
+    Front,
+    /// Move a node behind all others.
+    Back(u64),
+    /// Take a node out.
+    Unlink(u64),
+    /// Say which node stands behind a node.
+    Next(u64),
+    /// Say whether a node is linked.
+    Member(u64),
+}
+
 /// What a line asks for.
 #[derive(Clone, Copy)]
 pub enum Command {
@@ -24,6 +37,12 @@ pub enum Command {
     MakeSketch(u64),
     /// Ask the sketch.
     Sketch(SketchCommand),
+    /// Make a queue over so many nodes.
+    MakeQueue(u64),
+    /// Ask the queue.
+    Queue(QueueCommand),
+    /// Say all nodes that the queue has linked with their elements, front first.
+    ListQueue,
 }
 
 /// Why a line is answered `error`.
@@ -35,6 +54,10 @@ pub enum Fault {
     WrongWords,
     /// It asks a sketch, and none was made last.
     NoSketch,
+    /// It asks a queue, and none was made last.
+    NoQueue,
+    /// It asks for more memory than the hub has to lend.
+    TooLarge,
 }
 
 /// A line of a script.
@@ -48,52 +71,13 @@ pub enum Line {
     Wrong(Fault),
 }
 
-/// What a line asks for.
-pub fn read(line: &[u8]) -> Line
-    ensures { λ r. ⌜ r ≡ line-of (words-of (now (line .entry))) ⌝ }
-{
-    let mut words = Words::of(line);
-    match words.next() {
-        None => Line::Comment,
-        Some(first) => {
-            if is_comment(first) {
-                return Line::Comment;
-            }
-            match verb_of(first) {
-                Some(verb) => read_asked(verb, &mut words),
-                None => Line::Wrong(Fault::UnknownCommand),
-            }
-        }
-    }
-}
-
-/// Whether a first word makes its line a comment.
-fn is_comment(word: &[u8]) -> bool
-    ensures { λ r. ⌜ r ≡ comment-word (now (word .entry)) ⌝ }
-{
-    match word {
-        [first, ..] => *first == b'#',
-        [] => false,
-    }
-}
-
-/// What a command asks for with the words behind it.
-fn read_asked(verb: Verb, words: &mut Words) -> Line
-    ensures { λ r. ⌜ r ≡ asked verb (words-of (now (now (words .entry) .rest))) ⌝ }
-{
-    let number = match verb {
-        Verb::SketchWords => words.only_field(b"words="),
-        _ => words.only_number(),
-    };
-    let Some(n) = number else {
-        return Line::Wrong(Fault::WrongWords);
-    };
-    Line::Ask(
-        match verb {
-            Verb::SketchWords => Command::MakeSketch(n),
-            Verb::OpenFor => Command::Sketch(SketchCommand::Open(n)),
-            Verb::CountHash => Command::Sketch(SketchCommand::Count(n)),
-            Verb::EstimateHash => Command::Sketch(SketchCommand::Estimate(n)),
-        },
-    )
+/// What a reader of one part's commands makes of a line.
+#[derive(Clone, Copy)]
+pub enum Reading {
+    /// The first word names no command of this part.
+    Unknown,
+    /// The words behind the command are not those that it takes.
+    Wrong,
+    /// It asks for this.
+    Asks(Command),
 }

@@ -1,6 +1,6 @@
 //! The script format: the words of a line, the numbers among them, what a line asks for and what an answer says.
 //!
-//! A script is read line by line. Everything here is about one line: `command::read` says what it asks for, and an
+//! A script is read line by line. Everything here is about one line: `lines::read` says what it asks for, and an
 //! `Answer` says by `Display` what is written back. Both are proved, byte for byte, equal to definitions in specs/;
 //! where lines come from, and what is done for them, is another crate's.
 //!
@@ -8,6 +8,8 @@
 //! after the other off that list.
 pub mod answer;
 pub mod command;
+pub mod lines;
 pub mod numbers;
-pub mod verb;
+pub mod queue_lines;
+pub mod sketch_lines;
 pub mod words;

@@ -6,7 +6,7 @@ ghost use denote.Ref.{now};
 ghost use Rattle.std.specs.shelf.Text.{sameBytes};
 ghost use Rattle.script.specs.Lines.{blank, words as words-of, first, others};
 ghost use Rattle.script.specs.Runs.{leading, contents};
-ghost use Rattle.script.specs.Readings.{only, only-number, only-field, field};
+ghost use Rattle.script.specs.Readings.{only, only-number, only-pair, only-field, field, none-left};
 use crate::numbers::number;
 
 /// Whether a byte parts words.
@@ -37,7 +37,7 @@ pub fn is_word(word: &[u8], name: &[u8]) -> bool
 }
 
 /// The words of a line that are still to be read.
-#[derive(Drop)]
+#[derive(Clone, Copy)]
 pub struct Words<'a> {
     rest: &'a [u8],
 }
@@ -83,6 +83,33 @@ impl<'a> Words<'a> {
         match self.only() {
             Some(word) => number(word),
             None => None,
+        }
+    }
+
+    /// The numbers that the only two words left say.
+    pub fn only_pair(&mut self) -> Option<(u64, u64)>
+        ensures { λ r. ⌜ r ≡ only-pair (words-of (now (now (self .entry) .rest))) ⌝ }
+    {
+        match self.next() {
+            None => None,
+            Some(word) => {
+                let first = number(word);
+                let second = self.only_number();
+                match (first, second) {
+                    (Some(a), Some(b)) => Some((a, b)),
+                    _ => None,
+                }
+            }
+        }
+    }
+
+    /// Whether no word is left.
+    pub fn is_done(&mut self) -> bool
+        ensures { λ r. ⌜ r ≡ none-left (words-of (now (now (self .entry) .rest))) ⌝ }
+    {
+        match self.next() {
+            None => true,
+            Some(_) => false,
         }
     }
 

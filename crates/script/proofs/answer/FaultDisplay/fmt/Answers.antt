@@ -8,3 +8,9 @@ returns-in-WrongWords g c = simp (c .in-WrongWords .is) (c .write-str-in-WrongWo
 
 pub returns-in-NoSketch : need.returns-in-NoSketch
 returns-in-NoSketch g c = simp (c .in-NoSketch .is) (c .write-str-in-NoSketch .ensures .prints)
+
+pub returns-in-NoQueue : need.returns-in-NoQueue
+returns-in-NoQueue g c = simp (c .in-NoQueue .is) (c .write-str-in-NoQueue .ensures .prints)
+
+pub returns-in-TooLarge : need.returns-in-TooLarge
+returns-in-TooLarge g c = simp (c .in-TooLarge .is) (c .write-str-in-TooLarge .ensures .prints)
