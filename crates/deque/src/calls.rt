@@ -62,7 +62,7 @@ impl<'n, T: Copy> Deque<'n, T> {
         ensures values { λ r. ⌜ ((j : ℕ) → value-at (now (self .exit)) j ≡ by-ok r (at-place i x j (value-at (now (self .entry)) j)) (value-at (now (self .entry)) j)) ⌝ }
         ensures refused { λ r. ⌜ Untouched r (now (self .entry)) (now (self .exit)) ⌝ }
     {
-        if i >= self.chain.lent() {
+        if i >= self.chain.nodes_lent() {
             return Err(Refusal::NotFree);
         }
         if self.chain.is_linked(i) {
@@ -175,7 +175,7 @@ impl<'n, T: Copy> Deque<'n, T> {
     pub fn nodes_lent(&self) -> usize
         ensures { λ r. ⌜ r ≡ lent (now (self .entry)) ⌝ }
     {
-        self.chain.lent()
+        self.chain.nodes_lent()
     }
 
     /// The element of node i. Refused (8) where it is not linked.
@@ -214,11 +214,11 @@ impl<'n, T: Copy> Deque<'n, T> {
     {
         let Deque { chain } = self;
         let Chain {
-            nodes,
+            nodes: handed,
             head: _,
             tail: _,
             len: _,
         } = chain;
-        nodes
+        handed
     }
 }

@@ -26,7 +26,7 @@ pub struct Chain<'n, T> {
 
 impl<T: Copy> Chain<'_, T> {
     /// How many nodes are lent.
-    pub(crate) fn lent(&self) -> usize
+    pub(crate) fn nodes_lent(&self) -> usize
         ensures { λ r. ⌜ r ≡ length (state (now (self .entry)) .ns) ⌝ }
     {
         self.nodes.len()

@@ -14,8 +14,8 @@ use Rattle.deque.proofs.Deque.push_back.Needs as need
 pub returns-then-is-linked : need.returns-then-is-linked
 returns-then-is-linked g c =
     let s = state (c .args .self .now .chain) in
-    let l = c .if-i-lent .left in
-    let q = c .lent .ensures in
+    let l = c .if-i-nodes-lent .left in
+    let q = c .nodes-lent .ensures in
     let e = lent-free s (c .args .self .now .kept) (c .args .i) (c .is-linked .result) true (omega arith) (c .is-linked .ensures) (c .if-is-linked .taken) in
     record {
       answer = chosen (Ok tt) (Err NotFree) e;
@@ -31,8 +31,8 @@ pub push-requires : need.push-requires
 push-requires g c κs =
     let s = state (c .args .self .now .chain) in
     let h = out s (c .args .self .now .kept) in
-    let l = c .if-i-lent .left in
-    let q = c .lent .ensures in
+    let l = c .if-i-nodes-lent .left in
+    let q = c .nodes-lent .ensures in
     let r = room s _ h (c .args .i) (omega arith) (in-order s (c .args .self .now .kept) (c .args .i) (c .is-linked .result) false (c .is-linked .ensures) (c .if-is-linked .left)) in
     let m = h .small in
     record { here = omega arith; small = omega arith; tail = tail-within s _ h; room = omega arith }
@@ -41,8 +41,8 @@ pub ghost-self : need.ghost-self
 ghost-self g c =
     let s = state (c .args .self .now .chain) in
     let k = c .args .self .now .kept in
-    let l = c .if-i-lent .left in
-    let q = c .lent .ensures in
+    let l = c .if-i-nodes-lent .left in
+    let q = c .nodes-lent .ensures in
     let m = push-made s _ k (c .args .i) (c .args .x) (omega arith) (in-order s k (c .args .i) (c .is-linked .result) false (c .is-linked .ensures) (c .if-is-linked .left)) (c .push .ensures) in
     (m .kept, tt)
 
@@ -50,8 +50,8 @@ pub returns : need.returns
 returns g c =
     let s = state (c .args .self .now .chain) in
     let k = c .args .self .now .kept in
-    let l = c .if-i-lent .left in
-    let q = c .lent .ensures in
+    let l = c .if-i-nodes-lent .left in
+    let q = c .nodes-lent .ensures in
     let e = lent-free s k (c .args .i) (c .is-linked .result) false (omega arith) (c .is-linked .ensures) (c .if-is-linked .left) in
     let m = push-made s _ k (c .args .i) (c .args .x) (omega arith) (in-order s k (c .args .i) (c .is-linked .result) false (c .is-linked .ensures) (c .if-is-linked .left)) (c .push .ensures) in
     record { answer = chosen (Ok tt) (Err NotFree) e; number = chosen None (Some 9) e; order = m .order; size = m .size; owner = m .owner; values = m .values; refused = tt }
