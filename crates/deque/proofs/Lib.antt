@@ -1,0 +1,7 @@
+pub mod Orders
+pub mod Memory
+pub mod Soundness
+pub mod Items
+pub mod Orderly
+pub mod Outcomes
+pub mod Promises

@@ -1,0 +1,9 @@
+use mathlib.Core.Path.{refl, ap}
+use Rattle.deque.specs.Chain.{state}
+use Rattle.deque.specs.Edits.{element-to, with-nodes}
+use Rattle.deque.proofs.Memory.{set-node}
+use Rattle.deque.proofs.chain.Chain.put_element.Needs as need
+
+pub returns : need.returns
+returns g c =
+    ap (with-nodes (state (c .args .self .now))) (set-node (element-to (c .args .x)) (c .args .self .now .nodes .now) (c .args .i) _ (c .index-self-i .result) refl)

@@ -1,0 +1,11 @@
+use mathlib.Core.Path.{sym}
+use native.Mathlib.Omega.{arith}
+use Rattle.deque.proofs.Orders.{is-some}
+use Rattle.deque.proofs.Memory.{length-views}
+use Rattle.deque.proofs.chain.Chain.put_prev.Needs as need
+
+pub put-prev-at-requires : need.put-prev-at-requires
+put-prev-at-requires g c κs =
+    let l = c .pre (c .in-Some .i) (is-some (sym (c .in-Some .ensures tt))) in
+    let e = length-views (c .args .self .now .nodes .now) in
+    omega arith
