@@ -1,1 +1,2 @@
 pub mod SketchService
+pub mod QueueService

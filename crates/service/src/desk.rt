@@ -2,10 +2,12 @@
 use script::answer::Answer;
 use script::answer::AnswerDisplay;
 use script::answer::FaultDisplay;
-use script::command;
+use script::answer::Item;
+use script::answer::ItemDisplay;
 use script::command::Command;
 use script::command::Fault;
 use script::command::Line;
+use script::lines;
 use std::alloc::Global;
 use std::io;
 use std::io::BufRead;
@@ -41,7 +43,7 @@ impl<R: BufRead, W: Write, E: Write> Desk<R, W, E> {
                 return Ok(None);
             }
             self.number = self.number.saturating_add(1);
-            match command::read(self.line.as_slice()) {
+            match lines::read(self.line.as_slice()) {
                 Line::Comment => {}
                 Line::Wrong(why) => self.complain(why)?,
                 Line::Ask(command) => return Ok(Some(command)),
@@ -60,6 +62,21 @@ impl<R: BufRead, W: Write, E: Write> Desk<R, W, E> {
         let number = self.number;
         writeln!(self.notes, "line {number}: {why}")?;
         self.say(Answer::Error)
+    }
+
+    /// Begins the answer that lists a queue.
+    pub fn begin_list(&mut self) -> io::Result<()> {
+        write!(self.output, "list")
+    }
+
+    /// One more of the list.
+    pub fn list_item(&mut self, item: Item) -> io::Result<()> {
+        write!(self.output, "{item}")
+    }
+
+    /// Ends the list's line.
+    pub fn end_list(&mut self) -> io::Result<()> {
+        writeln!(self.output, "")
     }
 
     /// Writes out what was held back.

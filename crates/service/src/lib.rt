@@ -5,5 +5,6 @@
 //! to the part, is promised by the function that asks it; that lines come in and answers go out in their order is
 //! tested, since no contract speaks of streams.
 pub mod desk;
+pub mod queue_service;
 pub mod serve;
 pub mod sketch_service;

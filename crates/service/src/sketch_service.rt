@@ -8,7 +8,7 @@ use sketch::FrequencySketch;
 use sketch::Increment;
 
 /// Asks a sketch.
-pub fn ask(sketch: &mut FrequencySketch, command: SketchCommand) -> Answer
+pub fn ask_sketch(sketch: &mut FrequencySketch, command: SketchCommand) -> Answer
     ensures answer { λ r. ⌜ r ≡ sketch-answer (lent (now (sketch .entry))) (meaning (now (sketch .entry))) command ⌝ }
     ensures memory { λ _. ⌜ meaning (now (sketch .exit)) ≡ sketch-after (lent (now (sketch .entry))) (meaning (now (sketch .entry))) command ⌝ }
 {
