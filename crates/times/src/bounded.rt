@@ -1,6 +1,9 @@
 //! The two types, with the bound in each; the modules below make them, read them and compare them.
 ghost use Prim.Native.Nat.{_≤_, _^_};
 
+// The largest number that is an instant or a duration: 2^62.
+const MOST: u64 = 4611686018427387904;
+
 // A point in time, in nanoseconds from a start that the caller chooses.
 #[derive(Clone, Copy)]
 pub struct Instant {
@@ -15,5 +18,6 @@ pub struct Duration {
     ghost ok: { nanos ≤ 2 ^ 62 },
 }
 
+pub mod durations;
 pub mod expiry;
-pub mod making;
+pub mod instants;

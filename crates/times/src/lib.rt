@@ -15,3 +15,4 @@ pub use bounded::Instant;
 pub use bounded::expiry::is_expired;
 pub use bounded::expiry::is_expired_since;
 pub use refusal::Refusal;
+pub use refusal::RefusalDebug;

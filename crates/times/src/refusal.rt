@@ -3,7 +3,7 @@ ghost use mathlib.Core.Path.{_≡_};
 ghost use Rattle.times.specs.Refusals.{refusal-number};
 
 // What is wrong with a number that was to become an instant or a duration.
-#[derive(Clone, Copy)]
+#[derive(Clone, Copy, Debug)]
 pub enum Refusal {
     // It is above 2^62.
     BeyondRange,
