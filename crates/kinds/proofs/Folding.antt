@@ -13,26 +13,25 @@ use Rattle.std.specs.shelf.Lists.{countBy, folded}
 use Rattle.std.proofs.shelf.Sums.{countBy-le-length}
 use Rattle.std.proofs.shelf.Ways.{tells}
 use Rattle.kinds.specs.Tags.{tag-byte, tag-bytes, joined, fold-byte, folded-tag, same-tag, filled, filled-bytes}
-use Rattle.kinds.specs.Laws.{Bytewise, Folds-each-byte, Same-byte-by-byte, Folds-once}
-use Rattle.kinds.proofs.Bytes.{all-below, agree}
-use Rattle.kinds.proofs.Lanes.{lanes, lane-sum, same-lanes, lane, lanes-decide}
+use Rattle.kinds.specs.Laws.{Folds-each-byte, Same-byte-by-byte, Folds-once}
+use Rattle.kinds.proofs.Lanes.{over-bytes, lanes, lane-sum, lane, lanes-decide}
 use Rattle.kinds.proofs.Words.{fold-small}
 
 -- ---- definitions and lanes
 
-joined-lanes : (f : ℕ → ℕ) (k : ℕ) → lanes f 8 k ≡ joined (map f (tag-bytes k))
-unfolding lanes joined tag-bytes tag-byte
-joined-lanes f k =
+-- a tag's bytes, gone through from the first on
+over-tag : (step : ℕ → ℕ → ℕ) (k : ℕ) → over-bytes step 8 k ≡ folded step 0 (tag-bytes k)
+unfolding over-bytes tag-bytes tag-byte
+over-tag step k =
     rw (div-div-eq-div-mul k 256 256, div-div-eq-div-mul k (256 ^ 2) 256, div-div-eq-div-mul k (256 ^ 3) 256, div-div-eq-div-mul k (256 ^ 4) 256, div-div-eq-div-mul k (256 ^ 5) 256, div-div-eq-div-mul k (256 ^ 6) 256, div-one k)
 
 pub folded-lanes : (k : ℕ) → lanes fold-byte 8 k ≡ folded-tag k
-unfolding folded-tag
-folded-lanes k = joined-lanes fold-byte k
+unfolding lanes folded-tag joined tag-bytes
+folded-lanes k = over-tag (λ word b. word * 256 + fold-byte b) k
 
 pub filled-lanes : (k : ℕ) → lane-sum (λ b. cond (filled b) 1 0) 8 k ≡ filled-bytes k
-unfolding lane-sum filled-bytes tag-bytes tag-byte
-filled-lanes k =
-    rw (div-div-eq-div-mul k 256 256, div-div-eq-div-mul k (256 ^ 2) 256, div-div-eq-div-mul k (256 ^ 3) 256, div-div-eq-div-mul k (256 ^ 4) 256, div-div-eq-div-mul k (256 ^ 5) 256, div-div-eq-div-mul k (256 ^ 6) 256, div-one k)
+unfolding lane-sum filled-bytes
+filled-lanes k = over-tag (λ sum b. sum + cond (filled b) 1 0) k
 
 -- ---- the laws
 
@@ -51,8 +50,8 @@ same-folded k l e =
 pub same-byte-by-byte : Same-byte-by-byte
 same-byte-by-byte k l =
     record {
-      same = λ e. eq-eqb (folded-tag k) (folded-tag l) (same-folded k l e);
-      apart = λ t j h. sym (folds-each-byte k j h) ∙ ap (λ (x : ℕ). tag-byte x j) (eqb-true (folded-tag k) (folded-tag l) t) ∙ folds-each-byte l j h;
+      from-bytes = λ e. eq-eqb (folded-tag k) (folded-tag l) (same-folded k l e);
+      to-bytes = λ t j h. sym (folds-each-byte k j h) ∙ ap (λ (x : ℕ). tag-byte x j) (eqb-true (folded-tag k) (folded-tag l) t) ∙ folds-each-byte l j h;
     }
 
 fold-twice : (b : ℕ) → fold-byte (fold-byte b) ≡ fold-byte b

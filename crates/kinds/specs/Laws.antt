@@ -8,13 +8,13 @@ use Rattle.kinds.specs.Tags.{tag-byte, fold-byte, folded-tag, same-tag}
 abbrev pub Folds-each-byte : Type 0
 Folds-each-byte = (tag j : ℕ) → j < 8 → tag-byte (folded-tag tag) j ≡ fold-byte (tag-byte tag j)
 
--- Two tags are the same exactly when each byte of one folds to what that byte of the other does.
-pub record Bytewise (k l : ℕ) : Type 0 where
-  pub same : ((j : ℕ) → j < 8 → fold-byte (tag-byte k j) ≡ fold-byte (tag-byte l j)) → same-tag k l ≡ true
-  pub apart : same-tag k l ≡ true → (j : ℕ) → j < 8 → fold-byte (tag-byte k j) ≡ fold-byte (tag-byte l j)
+-- Two tags are the same exactly when each byte of one folds to what that byte of the other folds to.
+pub record Same-bytes (k l : ℕ) : Type 0 where
+  pub from-bytes : ((j : ℕ) → j < 8 → fold-byte (tag-byte k j) ≡ fold-byte (tag-byte l j)) → same-tag k l ≡ true
+  pub to-bytes : same-tag k l ≡ true → (j : ℕ) → j < 8 → fold-byte (tag-byte k j) ≡ fold-byte (tag-byte l j)
 
 abbrev pub Same-byte-by-byte : Type 0
-Same-byte-by-byte = (k l : ℕ) → Bytewise k l
+Same-byte-by-byte = (k l : ℕ) → Same-bytes k l
 
 -- Folding a second time changes nothing.
 abbrev pub Folds-once : Type 0

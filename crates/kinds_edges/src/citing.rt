@@ -21,7 +21,8 @@ pub fn same_either_way<K: EntryKind>(k: &K::Key, l: &K::Key) -> bool
 
 // Two keys that are both the same as a third are the same: by `trans`.
 pub fn same_through<K: EntryKind>(a: &K::Key, third: &K::Key, b: &K::Key) -> bool
-    ensures { λ r. ⌜ (r ≡ true → alike (now (a .entry)) (now (b .entry)) ≡ true) ⌝ }
+    ensures answer { λ r. ⌜ r ≡ (alike (now (a .entry)) (now (third .entry)) && alike (now (third .entry)) (now (b .entry))) ⌝ }
+    ensures so { λ r. ⌜ (r ≡ true → alike (now (a .entry)) (now (b .entry)) ≡ true) ⌝ }
 {
     K::same(a, third) && K::same(third, b)
 }
