@@ -1,15 +1,13 @@
 -- The tag's definitions, which go from the first byte to the last, are the lanes, which go from the last
 -- to the first; and from there the laws of folded tags.
-use mathlib.Core.Path.{_≡_, refl, sym, ap, _∙_}
-use mathlib.Core.Bool.{Bool, true, false, cond, _&&_}
-use mathlib.Core.List.{List, [], _∷_, map}
-use Prim.Native.Nat.{ℕ, zero, suc, _+_, _-_, _*_, _/_, _%_, _^_, _<_, _≤_}
+use mathlib.Core.Path.{_≡_, sym, ap, _∙_}
+use mathlib.Core.Bool.{true, cond}
+use Prim.Native.Nat.{ℕ, _+_, _-_, _*_, _/_, _%_, _^_, _<_, _≤_}
 use native.Mathlib.Omega.{arith}
 use native.Mathlib.Nat.{div-one, div-div-eq-div-mul}
 use borrow.Author.Tests.{eqb-true, eq-eqb}
-use lib.Dec.{leb, eqb, lit<}
-use lib.ListN.{length}
-use Rattle.std.specs.shelf.Lists.{countBy, folded}
+use lib.Dec.{lit<}
+use Rattle.std.specs.shelf.Lists.{folded}
 use Rattle.std.proofs.shelf.Sums.{countBy-le-length}
 use Rattle.std.proofs.shelf.Ways.{tells}
 use Rattle.kinds.specs.Tags.{tag-byte, tag-bytes, joined, fold-byte, folded-tag, same-tag, filled, filled-bytes}

@@ -2,7 +2,7 @@
 -- Shown: an operation on words that goes byte by byte is that operation in each lane; a word is its own
 -- lanes; the bits set in lanes are counted lane by lane; each lane can be read off again.
 use mathlib.Core.Path.{_≡_, refl, sym, ap, ap₂, _∙_}
-use Prim.Native.Nat.{ℕ, zero, suc, _+_, _-_, _*_, _/_, _%_, _^_, _<_, _≤_}
+use Prim.Native.Nat.{ℕ, zero, suc, _+_, _*_, _/_, _%_, _^_, _<_}
 use native.Mathlib.Omega.{arith}
 use native.Mathlib.Nat.{pow-suc, mul-comm, div-one, div-div-eq-div-mul}
 use lib.Count.{ones, ones-cat}

@@ -1,6 +1,6 @@
 -- What is certain of folded tags.
 use mathlib.Core.Path.{_≡_}
-use mathlib.Core.Bool.{Bool, true}
+use mathlib.Core.Bool.{true}
 use Prim.Native.Nat.{ℕ, _<_}
 use Rattle.kinds.specs.Tags.{tag-byte, fold-byte, folded-tag, same-tag}
 

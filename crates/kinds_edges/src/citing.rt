@@ -1,6 +1,6 @@
 //! Generic code that uses the laws of a kind, one law to a function.
 ghost use mathlib.Core.Path.{_≡_};
-ghost use mathlib.Core.Bool.{Bool, true, _&&_};
+ghost use mathlib.Core.Bool.{true, _&&_};
 ghost use Prim.Native.Nat.{_+_, _^_, _<_};
 ghost use Rattle.kinds_edges.specs.When.{when};
 use kinds::EntryKind;

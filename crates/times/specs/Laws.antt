@@ -1,6 +1,6 @@
 -- What is certain of instants and of being over.
 use mathlib.Core.Path.{_≡_}
-use mathlib.Core.Bool.{Bool, true, false}
+use mathlib.Core.Bool.{true, false}
 use Prim.Native.Nat.{ℕ, _+_, _^_, _≤_, _<_}
 use Rattle.std.specs.declared.option.Option.{Option}
 use Rattle.times.specs.declared.bounded.Duration.{Duration}

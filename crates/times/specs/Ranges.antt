@@ -1,5 +1,5 @@
 -- Which numbers are instants and durations.
-use mathlib.Core.Bool.{Bool, true, false, cond}
+use mathlib.Core.Bool.{cond}
 use Prim.Native.Nat.{ℕ, _^_}
 use lib.Dec.{leb}
 use Rattle.std.specs.declared.result.Result.{Result}

@@ -1,6 +1,5 @@
 //! When something is over.
 ghost use mathlib.Core.Path.{_≡_};
-ghost use Prim.Native.Nat.{ℕ, _+_, _≤_, _^_};
 ghost use Rattle.times.specs.Expiry.{over, expired, span-of};
 ghost use Rattle.times.specs.Laws.{Expiry-edge, Expiry-lasts, Sums-fit};
 use super::Duration;

@@ -1,4 +1,4 @@
-use mathlib.Core.Path.{_≡_, ap}
+use mathlib.Core.Path.{ap}
 use Prim.Native.Nat.{ℕ, _+_, _-_, _^_, min}
 use Rattle.kinds.proofs.Folding.{same-filled}
 use Rattle.kinds.proofs.by_tag.TagsKind.the-impl.Needs as need
