@@ -1,0 +1,4 @@
+pub mod Bytes
+pub mod Lanes
+pub mod Words
+pub mod Folding

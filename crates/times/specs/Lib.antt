@@ -1,0 +1,4 @@
+pub mod Refusals
+pub mod Ranges
+pub mod Expiry
+pub mod Laws
