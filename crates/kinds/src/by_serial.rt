@@ -3,14 +3,14 @@ ghost use mathlib.Core.Bool.{false};
 ghost use lib.Dec.{eqb};
 use crate::EntryKind;
 
-// What was read of a serial: how often it went down, and the day of its webbing.
+/// What was read of a serial: how often it went down, and the day of its webbing.
 #[derive(Clone, Copy)]
 pub struct Reading {
     pub descents: u32,
     pub day: u32,
 }
 
-// The kind of readings by serial.
+/// The kind of readings by serial.
 #[derive(Clone, Copy)]
 pub struct Serials;
 

@@ -6,14 +6,14 @@ use crate::EntryKind;
 use crate::spelling::filled_bytes;
 use crate::spelling::folded_tag;
 
-// A log: how long it is, and where it lies.
+/// A log: how long it is, and where it lies.
 #[derive(Clone, Copy)]
 pub struct Log {
     pub length: u32,
     pub place: u32,
 }
 
-// The kind of logs by tag.
+/// The kind of logs by tag.
 #[derive(Clone, Copy)]
 pub struct Tags;
 

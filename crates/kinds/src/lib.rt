@@ -25,7 +25,7 @@ pub use by_tag::TagsKind;
 pub use spelling::filled_bytes;
 pub use spelling::folded_tag;
 
-// A kind of key and value, as the code above asks after it.
+/// A kind of key and value, as the code above asks after it.
 pub trait EntryKind {
     // What an entry is found by.
     type Key: Copy;
@@ -33,7 +33,7 @@ pub trait EntryKind {
     // What an entry holds.
     type Value: Copy;
 
-    // Whether entries of this kind are weighed: a fixed yes or no.
+    /// Whether entries of this kind are weighed: a fixed yes or no.
     const WEIGHED: bool;
 
     // Whether two keys are the same.
@@ -69,19 +69,19 @@ pub trait EntryKind {
     // Every weight is a number of 32 bits, which sums of weights rest on.
     law bounded: { (k : Self·Key) (v : Self·Value) → weighs k v < 2 ^ 32 };
 
-    // The constant, for generic code: a clause cannot name `WEIGHED` itself.
+    /// The constant, for generic code: a clause cannot name `WEIGHED` itself.
     fn is_weighed() -> bool
         ensures { λ r. ⌜ r ≡ weighed ⌝ };
 
-    // Whether two keys are the same.
+    /// Whether two keys are the same.
     fn same(a: &Self::Key, b: &Self::Key) -> bool
         ensures { λ r. ⌜ r ≡ alike (now (a .entry)) (now (b .entry)) ⌝ };
 
-    // The hash of a key.
+    /// The hash of a key.
     fn hash(k: &Self::Key) -> u64
         ensures { λ r. ⌜ r ≡ hashed (now (k .entry)) ⌝ };
 
-    // The weight of a key with a value.
+    /// The weight of a key with a value.
     fn weight(k: &Self::Key, v: &Self::Value) -> u32
         ensures { λ r. ⌜ r ≡ weighs (now (k .entry)) (now (v .entry)) ⌝ };
 }

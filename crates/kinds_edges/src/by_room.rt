@@ -5,14 +5,14 @@ ghost use lib.Dec.{eqb};
 ghost use Rattle.kinds_edges.specs.Rooms.{size-weight};
 use kinds::EntryKind;
 
-// How large a room's booking is.
+/// How large a room's booking is.
 #[derive(Clone, Copy)]
 pub enum Size {
     Small,
     Large,
 }
 
-// The kind of bookings by room.
+/// The kind of bookings by room.
 #[derive(Clone, Copy)]
 pub struct Rooms;
 

@@ -3,7 +3,7 @@ ghost use mathlib.Core.Path.{_≡_};
 ghost use Prim.Native.Nat.{_^_, min};
 use times::Instant;
 
-// A number, cut to the largest that is an instant.
+/// A number, cut to the largest that is an instant.
 pub fn clipped(nanos: u64) -> u64
     ensures { λ r. ⌜ r ≡ min nanos (2 ^ 62) ⌝ }
 {

@@ -7,7 +7,7 @@ use kinds::filled_bytes;
 use kinds::folded_tag;
 use std::test::*;
 
-// A tag, what it folds to, and how many of its bytes aren't zero.
+/// A tag, what it folds to, and how many of its bytes aren't zero.
 const SPELLINGS: [(u64, u64, u32); 10] = [
     (0, 0, 0),
     (u64::MAX, u64::MAX, 8),
@@ -27,7 +27,7 @@ const SPELLINGS: [(u64, u64, u32); 10] = [
     (0x8000_0000_0000_0001, 0x8000_0000_0000_0001, 2),
 ];
 
-// Two tags, and whether they are the same.
+/// Two tags, and whether they are the same.
 const PAIRS: [(u64, u64, bool); 6] = [
     (0x4100_0000_0000_0000, 0x6100_0000_0000_0000, true),
     (0x5a, 0x7a, true),
@@ -37,7 +37,7 @@ const PAIRS: [(u64, u64, bool); 6] = [
     (0x4100, 0x41, false),
 ];
 
-// A tag, a log's length, and their weight.
+/// A tag, a log's length, and their weight.
 const WEIGHTS: [(u64, u32, u32); 6] = [
     (0, 0, 0),
     (0x4100, 5, 6),

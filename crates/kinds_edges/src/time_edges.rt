@@ -9,7 +9,7 @@ use times::is_expired_since;
 
 const MOST: u64 = 4611686018427387904;
 
-// A span, an instant that it begins at, an instant later, and whether it is over then.
+/// A span, an instant that it begins at, an instant later, and whether it is over then.
 const SPANS: [(u64, u64, u64, bool); 8] = [
     (10, 90, 99, false),
     (10, 90, 100, true),

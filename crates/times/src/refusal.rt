@@ -2,7 +2,7 @@
 ghost use mathlib.Core.Path.{_≡_};
 ghost use Rattle.times.specs.Refusals.{refusal-number};
 
-// What is wrong with a number that was to become an instant or a duration.
+/// What is wrong with a number that was to become an instant or a duration.
 #[derive(Clone, Copy, Debug)]
 pub enum Refusal {
     // It is above 2^62.
@@ -10,7 +10,7 @@ pub enum Refusal {
 }
 
 impl Refusal {
-    // The number by which the refusal is told.
+    /// The number by which the refusal is told.
     pub fn number(self) -> u8
         ensures { λ r. ⌜ r ≡ refusal-number self ⌝ }
     {

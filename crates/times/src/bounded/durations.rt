@@ -7,7 +7,7 @@ use super::MOST;
 use crate::refusal::Refusal;
 
 impl Duration {
-    // The duration of this number, unless the number is above 2^62.
+    /// The duration of this number, unless the number is above 2^62.
     pub fn new(nanos: u64) -> Result<Duration, Refusal>
         ensures { λ r. ⌜ numbered (λ d. d .nanos) r ≡ in-range nanos ⌝ }
     {
@@ -18,7 +18,7 @@ impl Duration {
         }
     }
 
-    // The plain number, as it lies in memory.
+    /// The plain number, as it lies in memory.
     pub fn nanos(self) -> u64
         ensures answer { λ r. ⌜ r ≡ self .nanos ⌝ }
         ensures bounded { λ r. ⌜ r ≤ 2 ^ 62 ⌝ }

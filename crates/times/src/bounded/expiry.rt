@@ -6,7 +6,7 @@ use super::Duration;
 use super::Instant;
 
 impl Duration {
-    // Whether this span is over at `now`, begun at `from`.
+    /// Whether this span is over at `now`, begun at `from`.
     pub fn is_over(self, from: Instant, now: Instant) -> bool
         ensures answer { λ r. ⌜ r ≡ over (self .nanos) (from .nanos) (now .nanos) ⌝ }
         ensures edge { λ _. ⌜ Expiry-edge ⌝ }
@@ -16,7 +16,7 @@ impl Duration {
     }
 }
 
-// Whether what began at `from` has expired at `now`; with no span it never does.
+/// Whether what began at `from` has expired at `now`; with no span it never does.
 pub fn is_expired(span: Option<Duration>, from: Instant, now: Instant) -> bool
     ensures answer { λ r. ⌜ r ≡ expired (span-of span) (from .nanos) (now .nanos) ⌝ }
     ensures lasts { λ _. ⌜ Expiry-lasts ⌝ }
@@ -27,7 +27,7 @@ pub fn is_expired(span: Option<Duration>, from: Instant, now: Instant) -> bool
     }
 }
 
-// The same from a plain number, as it lies in memory; one that is no instant is never reached.
+/// The same from a plain number, as it lies in memory; one that is no instant is never reached.
 pub fn is_expired_since(span: Option<Duration>, from: u64, now: Instant) -> bool
     ensures { λ r. ⌜ r ≡ expired (span-of span) from (now .nanos) ⌝ }
 {
