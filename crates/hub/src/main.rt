@@ -1,8 +1,8 @@
 //! The hub: reads a script on standard input and answers it line for line on standard output.
 use deque::node::Node;
 use deque::node::NodeClone;
-use service::desk::Desk;
-use service::serve;
+use serving::desk::Desk;
+use serving::serve;
 use std::io;
 use std::io::BufReader;
 use std::io::BufWriter;

@@ -1,10 +1,12 @@
-//! The hub's service: answers a script line for line over memory that it is lent.
+//! The hub's service: what each part of the hub answers to a command of a script, and what it then is.
 //!
-//! A `Desk` reads lines and writes answers; `serve::run` goes from making to making, and between two of them one
-//! part of the hub is at hand, whose commands are answered by it. What each command is answered, and what it does
-//! to the part, is promised by the function that asks it; that lines come in and answers go out in their order is
-//! tested, since no contract speaks of streams.
-pub mod desk;
-pub mod queue_service;
-pub mod serve;
-pub mod sketch_service;
+//! One function for each part takes the part and a command, asks it and answers. It promises both, the answer and
+//! the part's meaning after it, as definitions (`sketch-answer`, `sketch-after` and their like in specs/) over the
+//! meaning before. Streams are no matter here: where commands come from and answers go is the caller's.
+//!
+//! The idea of the proof: there is none to write; each definition says case by case which call is made.
+mod queue_service;
+mod sketch_service;
+
+pub use queue_service::ask_queue;
+pub use sketch_service::ask_sketch;

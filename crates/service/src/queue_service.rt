@@ -15,7 +15,7 @@ pub fn ask_queue(queue: &mut Deque<u64>, command: QueueCommand) -> Answer
     match command {
         QueueCommand::Push(i, x) => done(queue.push_back(i as usize, x), Answer::Pushed),
         QueueCommand::Pop => match queue.pop_front() {
-            Some((node, x)) => Answer::Popped(node, x),
+            Some((popped, x)) => Answer::Popped(popped, x),
             None => Answer::Empty,
         },
         QueueCommand::Front => match queue.peek_front() {

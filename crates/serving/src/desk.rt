@@ -52,15 +52,15 @@ impl<R: BufRead, W: Write, E: Write> Desk<R, W, E> {
         Ok(None)
     }
 
-    /// Writes an answer.
+    /// Writes an answer line.
     pub fn say(&mut self, answer: Answer) -> io::Result<()> {
         writeln!(self.output, "{answer}")
     }
 
     /// Answers `error`, and notes the line and the reason.
     pub fn complain(&mut self, why: Fault) -> io::Result<()> {
-        let number = self.number;
-        writeln!(self.notes, "line {number}: {why}")?;
+        let line = self.number;
+        writeln!(self.notes, "line {line}: {why}")?;
         self.say(Answer::Error)
     }
 

@@ -1,13 +1,13 @@
 //! From making to making: what is at hand, and the lines that ask it.
 use crate::desk::Desk;
-use crate::queue_service::ask_queue;
-use crate::sketch_service::ask_sketch;
 use deque::Deque;
 use deque::node::Node;
 use script::answer::Answer;
 use script::answer::Item;
 use script::command::Command;
 use script::command::Fault;
+use service::ask_queue;
+use service::ask_sketch;
 use sketch::FrequencySketch;
 use std::io;
 use std::io::BufRead;
