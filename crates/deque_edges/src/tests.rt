@@ -92,11 +92,16 @@ fn runs(d: &mut Deque<u8>, script: &[(Step, Told)]) -> Result<(), Fail> {
     Ok(())
 }
 
+/// The script over a queue that is lent so many nodes, four at most.
+fn runs_over(lent: usize, script: &[(Step, Told)]) -> Result<(), Fail> {
+    let mut nodes = [Node::new(0), Node::new(0), Node::new(0), Node::new(0)];
+    let mut d = Deque::new(&mut nodes[0..lent.min(4)]);
+    check_eq(d.nodes_lent(), lent)?;
+    runs(&mut d, script)
+}
+
 #[test]
 fn no_node_lent() -> Result<(), Fail> {
-    let mut nodes: [Node<u8>; 0] = [];
-    let mut d = Deque::new(&mut nodes);
-    check_eq(d.nodes_lent(), 0)?;
     let script = [
         (Step::Push(0, 1), Told::Refused(9)),
         (Step::Unlink(0), Told::Refused(8)),
@@ -105,13 +110,11 @@ fn no_node_lent() -> Result<(), Fail> {
         (Step::Clear, Told::Done),
         (Step::Len, Told::Count(0)),
     ];
-    runs(&mut d, &script)
+    runs_over(0, &script)
 }
 
 #[test]
 fn one_node() -> Result<(), Fail> {
-    let mut nodes = [Node::new(5)];
-    let mut d = Deque::new(&mut nodes);
     let script = [
         (Step::Push(0, 6), Told::Done),
         (Step::Push(0, 7), Told::Refused(9)),
@@ -124,14 +127,11 @@ fn one_node() -> Result<(), Fail> {
         (Step::Get(0), Told::Refused(8)),
         (Step::Len, Told::Count(0)),
     ];
-    runs(&mut d, &script)
+    runs_over(1, &script)
 }
 
 #[test]
 fn all_linked() -> Result<(), Fail> {
-    let mut nodes = [Node::new(0), Node::new(0), Node::new(0)];
-    let mut d = Deque::new(&mut nodes);
-    check_eq(d.nodes_lent(), 3)?;
     let script = [
         (Step::Push(1, 10), Told::Done),
         (Step::Push(2, 20), Told::Done),
@@ -147,13 +147,11 @@ fn all_linked() -> Result<(), Fail> {
         (Step::Pop, Told::Item(2, 20)),
         (Step::Pop, Told::Nothing),
     ];
-    runs(&mut d, &script)
+    runs_over(3, &script)
 }
 
 #[test]
 fn greatest_number() -> Result<(), Fail> {
-    let mut nodes = [Node::new(0), Node::new(0)];
-    let mut d = Deque::new(&mut nodes);
     let script = [
         (Step::Push(1, 10), Told::Done),
         (Step::Push(FAR, 1), Told::Refused(9)),
@@ -165,13 +163,11 @@ fn greatest_number() -> Result<(), Fail> {
         (Step::Contains(FAR), Told::Is(false)),
         (Step::Peek, Told::Item(1, 10)),
     ];
-    runs(&mut d, &script)
+    runs_over(2, &script)
 }
 
 #[test]
 fn refusals() -> Result<(), Fail> {
-    let mut nodes = [Node::new(0), Node::new(0), Node::new(0), Node::new(0)];
-    let mut d = Deque::new(&mut nodes);
     let script = [
         (Step::Unlink(3), Told::Refused(8)),
         (Step::Push(2, 1), Told::Done),
@@ -184,13 +180,11 @@ fn refusals() -> Result<(), Fail> {
         (Step::Clear, Told::Done),
         (Step::Contains(2), Told::Is(false)),
     ];
-    runs(&mut d, &script)
+    runs_over(4, &script)
 }
 
 #[test]
 fn first_in_first_out() -> Result<(), Fail> {
-    let mut nodes = [Node::new(0), Node::new(0), Node::new(0), Node::new(0)];
-    let mut d = Deque::new(&mut nodes);
     let script = [
         (Step::Push(2, 1), Told::Done),
         (Step::Push(0, 2), Told::Done),
@@ -202,7 +196,7 @@ fn first_in_first_out() -> Result<(), Fail> {
         (Step::Pop, Told::Item(3, 4)),
         (Step::Pop, Told::Nothing),
     ];
-    runs(&mut d, &script)
+    runs_over(4, &script)
 }
 
 #[test]
