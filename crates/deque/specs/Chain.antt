@@ -39,6 +39,7 @@ walk ns (suc f) (Some i) = i ∷ walk ns f (next-of ns i)
 abbrev pub order : {T : Type 0} → State T → List ℕ
 order s = walk (s .ns) (s .len) (s .head)
 
+-- number i with the element x, where there is one
 abbrev pub item-in : {T : Type 0} → ℕ → Option T → List (ℕ × T)
 item-in i None = []
 item-in i (Some x) = (i, x) ∷ []

@@ -19,12 +19,15 @@ abbrev pub edited-at : {T : Type 0} → (View T → View T) → List (View T) �
 edited-at f ns None = ns
 edited-at f ns (Some i) = edited f ns i
 
+-- the link to the next node is v
 abbrev pub next-to : {T : Type 0} → Option ℕ → View T → View T
 next-to v n = record { next = v; prev = n .prev; linked = n .linked; element = n .element }
 
+-- the link to the node before is v
 abbrev pub prev-to : {T : Type 0} → Option ℕ → View T → View T
 prev-to v n = record { next = n .next; prev = v; linked = n .linked; element = n .element }
 
+-- the element is x
 abbrev pub element-to : {T : Type 0} → T → View T → View T
 element-to x n = record { next = n .next; prev = n .prev; linked = n .linked; element = x }
 
@@ -36,9 +39,11 @@ loose n = out-with (n .element)
 abbrev pub fresh : {T : Type 0} → Option ℕ → T → View T → View T
 fresh p x n = record { next = None; prev = p; linked = true; element = x }
 
+-- the same ends and count, over the nodes ns
 abbrev pub with-nodes : {T : Type 0} → State T → List (View T) → State T
 with-nodes s ns = record { ns = ns; head = s .head; tail = s .tail; len = s .len; lender = s .lender }
 
+-- the same nodes and ends, with the count n
 abbrev pub with-len : {T : Type 0} → State T → ℕ → State T
 with-len s n = record { ns = s .ns; head = s .head; tail = s .tail; len = n; lender = s .lender }
 

@@ -43,6 +43,7 @@ abbrev pub put-in : {T : Type 0} → ℕ → List (ℕ × T) → Turn T → List
 put-in n ps (push i x) = cond (free n ps i) ((i, x) ∷ []) []
 put-in n ps pop = []
 
+-- an option as a list
 abbrev pub at-most-one : {A : Type 0} → Option A → List A
 at-most-one None = []
 at-most-one (Some a) = a ∷ []

@@ -51,6 +51,7 @@ dropped i (p ∷ ps) = cond (eqb i (p .0)) ps (p ∷ dropped i ps)
 abbrev pub pushed : {T : Type 0} → List (ℕ × T) → ℕ → T → List (ℕ × T)
 pushed ps i x = ps ++ (i, x) ∷ []
 
+-- the first item, if there is one
 abbrev pub front : {T : Type 0} → List (ℕ × T) → Option (ℕ × T)
 front [] = None
 front (p ∷ ps) = Some p

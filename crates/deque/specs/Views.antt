@@ -17,16 +17,18 @@ most = 4294967295
 unfoldable pub link-of : Link → Option ℕ
 link-of l = cond (eqb (l .place) most) None (Some (l .place))
 
--- what a node says
+-- what a node in memory says
 pub record View (T : Type 0) : Type 0 where
   pub next : Option ℕ
   pub prev : Option ℕ
   pub linked : Bool
   pub element : T
 
+-- what the node n says
 abbrev pub view-of : {T : Type 0} → Node T → View T
 view-of n = record { next = link-of (n .next); prev = link-of (n .prev); linked = n .linked; element = n .element }
 
+-- what each of the nodes says
 abbrev pub views : {T : Type 0} → List (Node T) → List (View T)
 views ns = map view-of ns
 
@@ -35,18 +37,22 @@ abbrev pub out-with : {T : Type 0} → T → View T
 out-with x = record { next = None; prev = None; linked = false; element = x }
 
 -- ---- what stands at a place: nothing past the end
+-- the link to the next node
 abbrev pub next-in : {T : Type 0} → Option (View T) → Option ℕ
 next-in None = None
 next-in (Some n) = n .next
 
+-- the link to the node before
 abbrev pub prev-in : {T : Type 0} → Option (View T) → Option ℕ
 prev-in None = None
 prev-in (Some n) = n .prev
 
+-- the mark
 abbrev pub linked-in : {T : Type 0} → Option (View T) → Bool
 linked-in None = false
 linked-in (Some n) = n .linked
 
+-- the element
 abbrev pub element-in : {T : Type 0} → Option (View T) → Option T
 element-in None = None
 element-in (Some n) = Some (n .element)

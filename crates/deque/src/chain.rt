@@ -144,6 +144,7 @@ impl<T: Copy> Chain<'_, T> {
         self.tail = link;
     }
 
+    /// Where `at` names a node, its next is `to`.
     fn put_next(&mut self, at: Link, to: Link)
         requires { ⌜ Within (link-of at) (state (now self)) ⌝ }
         ensures { λ _. ⌜ state (now (self .exit)) ≡ with-nodes (state (now (self .entry))) (edited-at (next-to (link-of to)) (state (now (self .entry)) .ns) (link-of at)) ⌝ }
@@ -153,6 +154,7 @@ impl<T: Copy> Chain<'_, T> {
         }
     }
 
+    /// Where `at` names a node, the one before it is `to`.
     fn put_prev(&mut self, at: Link, to: Link)
         requires { ⌜ Within (link-of at) (state (now self)) ⌝ }
         ensures { λ _. ⌜ state (now (self .exit)) ≡ with-nodes (state (now (self .entry))) (edited-at (prev-to (link-of to)) (state (now (self .entry)) .ns) (link-of at)) ⌝ }
@@ -162,6 +164,7 @@ impl<T: Copy> Chain<'_, T> {
         }
     }
 
+    /// The next of node i is `to`.
     fn put_next_at(&mut self, i: usize, to: Link)
         requires { ⌜ i < length (now (now self .nodes)) ⌝ }
         ensures { λ _. ⌜ state (now (self .exit)) ≡ with-nodes (state (now (self .entry))) (edited (next-to (link-of to)) (state (now (self .entry)) .ns) i) ⌝ }
@@ -169,6 +172,7 @@ impl<T: Copy> Chain<'_, T> {
         self.nodes[i].next = to;
     }
 
+    /// The node before node i is `to`.
     fn put_prev_at(&mut self, i: usize, to: Link)
         requires { ⌜ i < length (now (now self .nodes)) ⌝ }
         ensures { λ _. ⌜ state (now (self .exit)) ≡ with-nodes (state (now (self .entry))) (edited (prev-to (link-of to)) (state (now (self .entry)) .ns) i) ⌝ }
@@ -176,6 +180,7 @@ impl<T: Copy> Chain<'_, T> {
         self.nodes[i].prev = to;
     }
 
+    /// Node i with the element x as the last, behind p.
     fn put_fresh(&mut self, i: usize, p: Link, x: T)
         requires { ⌜ i < length (now (now self .nodes)) ⌝ }
         ensures { λ _. ⌜ state (now (self .exit)) ≡ with-nodes (state (now (self .entry))) (edited (fresh (link-of p) x) (state (now (self .entry)) .ns) i) ⌝ }
@@ -188,6 +193,7 @@ impl<T: Copy> Chain<'_, T> {
         };
     }
 
+    /// Node i out, with its element as it was.
     fn put_loose(&mut self, i: usize)
         requires { ⌜ i < length (now (now self .nodes)) ⌝ }
         ensures { λ _. ⌜ state (now (self .exit)) ≡ with-nodes (state (now (self .entry))) (edited loose (state (now (self .entry)) .ns) i) ⌝ }
@@ -206,6 +212,7 @@ fn if_none(o: Link, a: Link, b: Link) -> Link
     }
 }
 
+/// Node i of the slice.
 fn node_at<T: Copy>(nodes: &[Node<T>], i: usize) -> Node<T>
     requires { ⌜ i < length (now nodes) ⌝ }
     ensures { λ r. ⌜ nth (views (now (nodes .entry))) i ≡ Some (view-of r) ⌝ }

@@ -1,3 +1,4 @@
+-- With every node out, the links lie as the empty order says.
 use Rattle.deque.specs.Chain.{state}
 use Rattle.deque.proofs.Outcomes.{emptied-kept}
 use Rattle.deque.proofs.Deque.clear.Needs as need

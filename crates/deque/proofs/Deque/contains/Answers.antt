@@ -1,3 +1,4 @@
+-- A node is a member exactly where its mark is set; no member stands twice, and each is lent.
 use mathlib.Core.Path.{sym, ap, _∙_, refl}
 use mathlib.Core.List.{List}
 use Prim.Native.Nat.{ℕ}

@@ -1,3 +1,4 @@
+-- The element of a linked node is the one that lies in it; a node that is not linked has none.
 use mathlib.Core.Path.{sym, ap, _∙_}
 use mathlib.Core.Bool.{true, false}
 use Rattle.std.specs.declared.option.Option.the-variants.{Some, None}

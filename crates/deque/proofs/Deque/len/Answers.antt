@@ -1,3 +1,4 @@
+-- The count is the length of the list.
 use Rattle.deque.specs.Chain.{state}
 use Rattle.deque.proofs.Soundness.{out}
 use Rattle.deque.proofs.Items.{length-is}

@@ -1,3 +1,4 @@
+-- Three ways: the node is not linked, it is the last, or it is sent behind all others.
 use mathlib.Core.Path.{refl, sym, ap, _∙_}
 use mathlib.Core.Bool.{true, false}
 use lib.ListN.{length}

@@ -1,3 +1,4 @@
+-- The part that is lent, with every node out, is an empty queue, and its elements are those of the slice.
 use mathlib.Core.Path.{refl, sym, ap, _∙_}
 use native.Mathlib.Omega.{arith}
 use Rattle.deque.specs.Views.{views}

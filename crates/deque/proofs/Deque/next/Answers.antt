@@ -1,3 +1,4 @@
+-- A linked node's link says what stands behind it in the list.
 use mathlib.Core.Path.{ap, _∙_}
 use mathlib.Core.Bool.{true, false}
 use Rattle.std.specs.declared.option.Option.the-variants.{Some, None}

@@ -1,3 +1,4 @@
+-- The head is the front of the list, none where the list is empty.
 use mathlib.Core.Path.{sym, ap}
 use Rattle.deque.specs.Views.{view-of}
 use Rattle.deque.specs.Chain.{state}

@@ -1,3 +1,4 @@
+-- The head is the front of the list, and is taken out, so that the rest is left.
 use mathlib.Core.Path.{refl, sym, ap, _∙_}
 use lib.ListN.{length}
 use Rattle.deque.specs.Views.{view-of, element-of}

@@ -1,3 +1,4 @@
+-- A node that is lent and out goes behind all others; any other is refused.
 use mathlib.Core.Path.{refl, sym, _∙_}
 use mathlib.Core.Bool.{true, false}
 use lib.ListN.{length}

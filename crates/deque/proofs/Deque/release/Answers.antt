@@ -1,3 +1,4 @@
+-- What is handed back is what the queue had, with its links as they lie.
 use mathlib.Core.Path.{refl}
 use Rattle.deque.specs.Chain.{state}
 use Rattle.deque.proofs.Soundness.{out}

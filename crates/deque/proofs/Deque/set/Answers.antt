@@ -1,3 +1,4 @@
+-- A write of an element leaves the links as they lie, and replaces the element in the list.
 use mathlib.Core.Path.{refl}
 use mathlib.Core.Bool.{true, false}
 use lib.ListN.{length}

@@ -1,3 +1,4 @@
+-- A linked node is taken out, and is then no member; any other is refused.
 use mathlib.Core.Path.{refl, sym, ap, _∙_}
 use mathlib.Core.List.{List}
 use mathlib.Core.Bool.{true, false}

@@ -1,3 +1,4 @@
+-- What was read is what the node says.
 use mathlib.Core.Path.{refl}
 use Rattle.std.proofs.shelf.Maps.{nth-read}
 use Rattle.deque.proofs.Memory.{nth-views}

@@ -1,3 +1,4 @@
+-- The write of a new node with the old element is an edit that takes the node out.
 use Rattle.deque.specs.Edits.{loose}
 use Rattle.deque.proofs.Memory.{set-node}
 use Rattle.deque.proofs.chain.take_out.Needs as need

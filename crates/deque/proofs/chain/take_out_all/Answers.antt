@@ -1,3 +1,4 @@
+-- A turn takes one node more out; after the last turn all are out.
 use mathlib.Core.Path.{refl, sym, _∙_}
 use mathlib.Core.Bool.{false}
 use Prim.Native.Nat.{_<_, _≤_}

@@ -1,3 +1,4 @@
+-- The nodes passed are out, and every element is as it was.
 use mathlib.Core.Path.{_≡_}
 use mathlib.Core.Bool.{false}
 use Prim.Native.Nat.{ℕ, _<_}

@@ -1,3 +1,4 @@
+-- In a fresh line there is room for number 0, who is then in front.
 use mathlib.Core.Path.{_≡_, sym, ap, _∙_}
 use mathlib.Core.List.{List}
 use mathlib.Core.Bool.{true, cond}

@@ -1,3 +1,4 @@
+-- The writes are at lent nodes: node i, and the one that was the last.
 use native.Mathlib.Omega.{arith}
 use Rattle.std.specs.declared.option.Option.the-variants.{Some}
 use Rattle.deque.specs.Views.{link-of}

@@ -1,3 +1,4 @@
+-- After the first write the nodes are as many as before, so the second is at a lent node too.
 use Rattle.deque.specs.Views.{link-of}
 use Rattle.deque.specs.Chain.{state}
 use Rattle.deque.specs.Edits.{next-to}

@@ -1,3 +1,4 @@
+-- After the neighbours are joined the nodes are as many as before, so node i is lent still.
 use mathlib.Core.Path.{ap}
 use native.Mathlib.Omega.{arith}
 use lib.ListN.{length}

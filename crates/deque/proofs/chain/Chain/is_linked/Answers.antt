@@ -1,3 +1,4 @@
+-- Past the end there is no mark.
 use mathlib.Core.Path.{sym, ap}
 use Prim.Native.Nat.{_≤_}
 use lib.ListN.{length}

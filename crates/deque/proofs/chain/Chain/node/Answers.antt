@@ -1,3 +1,4 @@
+-- A node that can be seen is a node of the slice.
 use native.Mathlib.Omega.{arith}
 use Rattle.deque.proofs.Memory.{length-views}
 use Rattle.deque.proofs.chain.Chain.node.Needs as need

@@ -1,3 +1,4 @@
+-- As many nodes are seen as lie in the slice.
 use mathlib.Core.Path.{sym}
 use Rattle.deque.proofs.Memory.{length-views}
 use Rattle.deque.proofs.chain.Chain.nodes_lent.Needs as need

@@ -1,3 +1,4 @@
+-- The write of a whole node is an edit of what one node says.
 use mathlib.Core.Path.{ap}
 use mathlib.Core.Bool.{true}
 use Rattle.deque.specs.Views.{link-of}

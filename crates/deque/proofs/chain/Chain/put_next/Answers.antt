@@ -1,3 +1,4 @@
+-- A link that names a node names a lent one.
 use mathlib.Core.Path.{sym}
 use native.Mathlib.Omega.{arith}
 use Rattle.deque.proofs.Orders.{is-some}

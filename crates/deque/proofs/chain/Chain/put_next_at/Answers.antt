@@ -1,3 +1,4 @@
+-- The write of one field is an edit of what one node says.
 use mathlib.Core.Path.{refl, ap}
 use Rattle.deque.specs.Views.{link-of}
 use Rattle.deque.specs.Chain.{state}

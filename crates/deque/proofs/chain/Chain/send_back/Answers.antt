@@ -1,3 +1,4 @@
+-- After the neighbours are joined, node i and the last are lent still.
 use native.Mathlib.Omega.{arith}
 use Rattle.deque.specs.Views.{link-of}
 use Rattle.deque.specs.Chain.{state}

@@ -1,3 +1,4 @@
+-- The one number that stands for none is told from the others.
 use mathlib.Core.Path.{_≡_}
 use mathlib.Core.Bool.{true, false}
 use lib.Dec.{eqb}

@@ -1,3 +1,4 @@
+-- A node's number is not the one that stands for none.
 use mathlib.Core.Bool.{false}
 use mathlib.Core.Path.{_≡_}
 use lib.Dec.{eqb}

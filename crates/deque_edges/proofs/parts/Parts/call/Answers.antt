@@ -1,3 +1,4 @@
+-- The name told is that of the queue's front.
 use mathlib.Core.Path.{ap, _∙_}
 use borrow.Author.Needs.{needs}
 use Rattle.deque_edges.specs.Waiting.{called}
