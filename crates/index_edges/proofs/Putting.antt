@@ -21,10 +21,12 @@ module _ {A B : Type 0} (alike : A → A → Bool) (f g : ℕ → Option (Entry 
   pub replaced-there : (i : ℕ) (v : B) (w a x : ℕ) → ((j : ℕ) → g j ≡ cond (eqb j i) (anew-in v w a x (f j)) (f j)) → hit alike (f i) k ≡ true → hit alike (g i) k ≡ true
   replaced-there i v w a x h t =
       let z : eqb i i ≡ true = grind (arith, tells) in
-      ap (λ (o : Option (Entry A B)). hit alike o k) (h i ∙ rw z) ∙ anew-hit v w a x (f i) ∙ t
+      let b : g i ≡ anew-in v w a x (f i) = h i ∙ rw z in
+      ap (λ (o : Option (Entry A B)). hit alike o k) b ∙ anew-hit v w a x (f i) ∙ t
 
   pub taken-there : (e : Entry A B) (r : Option ℕ) → ((j : ℕ) → g j ≡ cond (is r j) (Some e) (f j)) → alike (e .key) k ≡ true → (i : ℕ) → r ≡ Some i → hit alike (g i) k ≡ true
   taken-there e r h t i q =
       let z : eqb i i ≡ true = grind (arith, tells) in
       let y : is r i ≡ true = ap (λ (o : Option ℕ). is o i) q ∙ z in
-      ap (λ (o : Option (Entry A B)). hit alike o k) (h i ∙ rw y) ∙ t
+      let b : g i ≡ Some e = h i ∙ rw y in
+      ap (λ (o : Option (Entry A B)). hit alike o k) b ∙ t

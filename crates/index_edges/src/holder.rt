@@ -9,8 +9,6 @@ ghost use Rattle.index_edges.specs.Counted.{Counted};
 use crate::parts::Parts;
 use index::Index;
 use kinds::EntryKind;
-use table::Cell;
-use table::Link;
 
 /// A holder of an index.
 #[derive(Drop)]
@@ -44,17 +42,4 @@ impl<'q, 'm, K: EntryKind> Holder<'q, 'm, K> {
     {
         self.parts.count
     }
-}
-
-/// Makes an index and a holder over lent memory, and puts one entry.
-pub fn put_one<K: EntryKind>(
-    cells: &mut [Cell<K::Key, K::Value>],
-    heads: &mut [Link],
-    key: K::Key,
-    value: K::Value,
-) -> usize {
-    let mut index = Index::<K>::new(cells, heads);
-    let mut holder = hold::<K>(&mut index);
-    let _ = holder.put(key, value);
-    holder.count()
 }

