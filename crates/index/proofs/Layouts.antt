@@ -20,11 +20,14 @@ use Rattle.table.specs.Chain.{State, capacity, spot-in, entry-in, spot, entry-a
 use Rattle.table.proofs.Memory
 use Rattle.table.proofs.Soundness as sound
 use Rattle.table.proofs.Outcomes as outcomes
-use Rattle.index.specs.Layout.{free-at, Held-or-free, In-its-chain, Layout}
+use Rattle.index.specs.Layout.{free-at, Held-or-free, In-its-chain, Only-held, Layout}
 
 module _ {A B : Type 0} where
   in-its-chain : (s : State A B) → Sound s → In-its-chain s
   in-its-chain s h j e q b = sym (h .chains b .holds j) ∙ ap (λ (o : Option ℕ). is o b) (sound.held-spot s j e q)
+
+  only-held : (s : State A B) → Sound s → Only-held s
+  only-held s h j b l t = let e = sound.chain-entry s j b (h .chains b .holds j ∙ t) l in ap isSome (e .1)
 
   -- a used cell is free exactly where it is not marked
   used-either : (n : ℕ) (c : Cell A B) → 0 < n → is (spot-in n (Some c)) n ≡ not (isSome (entry-in (Some c)))
@@ -49,6 +52,7 @@ module _ {A B : Type 0} where
   pub layout : (s : State A B) → Sound s → Layout s
   layout s h = record {
     stands = in-its-chain s h;
+    only = only-held s h;
     once = λ b. h .chains b .apart;
     either = held-or-free s h;
     beyond = λ j l. let u = h .size in outcomes.past-entry s j (omega arith);

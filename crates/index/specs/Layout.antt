@@ -24,9 +24,14 @@ Held-or-free s = (j : ℕ) → j < capacity s → free-at s j ≡ not (isSome (e
 abbrev pub In-its-chain : {A B : Type 0} → State A B → Type 0
 In-its-chain {A} {B} s = (j : ℕ) (e : Entry A B) → entry-at s j ≡ Some e → (b : ℕ) → has (chain s b) j ≡ eqb b (e .hash % length (s .hs))
 
+-- and only held cells stand in the chain of a head
+abbrev pub Only-held : {A B : Type 0} → State A B → Type 0
+Only-held s = (j b : ℕ) → b < length (s .hs) → has (chain s b) j ≡ true → isSome (entry-at s j) ≡ true
+
 -- what is certain of the memory
 pub record Layout {A B : Type 0} (s : State A B) : Type 0 where
   pub stands : In-its-chain s
+  pub only : Only-held s
   pub once : (b : ℕ) → distinct (chain s b) ≡ true
   pub either : Held-or-free s
   pub beyond : (j : ℕ) → capacity s ≤ j → entry-at s j ≡ None

@@ -114,9 +114,6 @@ module _ {A B : Type 0} where
   pub vacancy-took : (s t : State A B) (v : Vacancy) (e : Entry A B) → Sound s → Some v ≡ vacancy-in s → t ≡ join-state (freed s (v .used) (v .rest)) (v .place) e → Took s t e (Some (v .place))
   vacancy-took s t v e h q w = subst (λ (x : State A B). Took s x e (Some (v .place))) (sym w) (go (goes-to (s .free)) refl q)
     where
-      Goal : Vacancy → Type 0
-      Goal x = Took s (join-state (freed s (x .used) (x .rest)) (x .place) e) e (Some (x .place))
-
       go : (o : Option ℕ) → goes-to (s .free) ≡ o → Some v ≡ vacancy-of s o → Took s (join-state (freed s (v .used) (v .rest)) (v .place) e) e (Some (v .place))
       go (Some i) f q = elim (cases-bool (ltb i (capacity s))) [
         | inl t ↦

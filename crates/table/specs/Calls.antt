@@ -29,11 +29,12 @@ pub record Marked {A B : Type 0} (s : State A B) (i : ℕ) (c : Cell A B) : Type
   pub here : nth (s .cs) i ≡ Some c
   pub marked : c .held ≡ true
 
--- the cell to take next: the first of the free ones, or else the first never used
+-- the cell to take next, given where `free` leads: the first of the free ones, or else the first never used
 abbrev pub vacancy-of : {A B : Type 0} → State A B → Option ℕ → Option Vacancy
 vacancy-of s (Some i) = cond (ltb i (capacity s)) (Some (record { place = i; used = s .used; rest = chain-in (nth (s .cs) i) })) None
 vacancy-of s None = cond (ltb (s .used) (capacity s)) (Some (record { place = s .used; used = s .used + 1; rest = s .free })) None
 
+-- and that of a state
 abbrev pub vacancy-in : {A B : Type 0} → State A B → Option Vacancy
 vacancy-in s = vacancy-of s (goes-to (s .free))
 

@@ -18,6 +18,7 @@ use Rattle.table.specs.Links.{goes-to, most, nowhere}
 use Rattle.table.specs.Places.{is, first, has, after, distinct, count}
 
 -- ---- the state
+-- the cells and heads as they lie, how many cells were ever used, the first free one of these, how many are held
 pub record State (A B : Type 0) : Type 0 where
   pub cs : List (Cell A B)
   pub hs : List Link
@@ -33,6 +34,7 @@ state t = record { cs = now (t .cells); hs = now (t .heads); used = t .used; fre
 abbrev pub capacity-of : ℕ → ℕ → ℕ
 capacity-of cells heads = cond (eqb heads 0) 0 (min cells most)
 
+-- and of a state
 abbrev pub capacity : {A B : Type 0} → State A B → ℕ
 capacity s = capacity-of (length (s .cs)) (length (s .hs))
 
@@ -61,6 +63,7 @@ entry-in (Some c) = cond (c .held) (Some (c .entry)) None
 abbrev pub link-of : {A B : Type 0} → List (Cell A B) → ℕ → Option ℕ
 link-of cs j = link-in (nth cs j)
 
+-- and of cell j of a state
 abbrev pub link : {A B : Type 0} → State A B → ℕ → Option ℕ
 link s j = link-of (s .cs) j
 
@@ -93,11 +96,12 @@ first-of s hash = head-of (s .hs) (hash % length (s .hs))
 abbrev pub head-at : {A B : Type 0} → State A B → ℕ → Option ℕ
 head-at s b = cond (eqb b (length (s .hs))) (goes-to (s .free)) (head-of (s .hs) b)
 
--- whether the key of cell j passes for k
+-- whether a cell's key, held or not, passes for k
 abbrev pub key-in : {A B : Type 0} → (A → A → Bool) → A → Option (Cell A B) → Bool
 key-in alike k None = false
 key-in alike k (Some c) = alike (c .entry .key) k
 
+-- and that of cell j
 abbrev pub key-of : {A B : Type 0} → (A → A → Bool) → List (Cell A B) → A → ℕ → Bool
 key-of alike cs k j = key-in alike k (nth cs j)
 

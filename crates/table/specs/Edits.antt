@@ -32,10 +32,11 @@ anew v w t x e = record { key = e .key; value = v; weight = w; hash = e .hash; t
 abbrev pub chain-to : {A B : Type 0} → Link → Cell A B → Cell A B
 chain-to v c = record { entry = c .entry; held = c .held; chain = v }
 
--- a held cell, and a free one
+-- a held cell
 abbrev pub filled : {A B : Type 0} → Entry A B → Link → Cell A B
 filled e v = record { entry = e; held = true; chain = v }
 
+-- a free cell: its entry means nothing
 abbrev pub emptied : {A B : Type 0} → Entry A B → Link → Cell A B
 emptied e v = record { entry = e; held = false; chain = v }
 
@@ -45,6 +46,7 @@ link-or None = nowhere
 link-or (Some l) = l
 
 -- ---- states
+-- other cells
 abbrev pub with-cells : {A B : Type 0} → State A B → List (Cell A B) → State A B
 with-cells s cs = record { cs = cs; hs = s .hs; used = s .used; free = s .free; held = s .held }
 
