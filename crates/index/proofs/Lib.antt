@@ -1,0 +1,5 @@
+pub mod Finding
+pub mod Lawfulness
+pub mod Layouts
+pub mod Counting
+pub mod Promises

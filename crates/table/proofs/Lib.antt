@@ -1,0 +1,6 @@
+pub mod Orders
+pub mod Memory
+pub mod Masks
+pub mod Chains
+pub mod Soundness
+pub mod Outcomes

@@ -1,0 +1,5 @@
+pub mod Links
+pub mod Places
+pub mod Chain
+pub mod Edits
+pub mod Calls
