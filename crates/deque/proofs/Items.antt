@@ -14,12 +14,12 @@ use Rattle.std.proofs.shelf.Ways.{tells}
 use Rattle.std.proofs.shelf.Tests.{cases-eq, cases-bool, eqb-true}
 use Rattle.std.specs.declared.option.Option.{Option}
 use Rattle.std.specs.declared.option.Option.the-variants.{Some, None}
-use Rattle.deque.specs.Places.{first, has, after, before, distinct, without}
+use Rattle.links.specs.Places.{first, has, after, before, distinct, without}
 use Rattle.deque.specs.Views.{View, next-in, linked-in, element-in, next-of, prev-of, linked-of, element-of}
 use Rattle.deque.specs.Chain.{State, order, item-in, item, meaning, Lies, Sound}
 use Rattle.deque.specs.Edits.{edited, edited-at, next-to, prev-to, element-to, loose, fresh, push-state, cut-state, unlink-state, set-state}
 use Rattle.deque.specs.Meaning.{places, dropped, rest, found, replaced, entry}
-use Rattle.deque.proofs.Orders.{both-ways, eqb-same, first-none}
+use Rattle.links.proofs.Orders.{both-ways, eqb-same, first-none}
 use Rattle.deque.proofs.Memory
 use Rattle.deque.proofs.Soundness.{order-is, has-within, push-sound, unlink-sound, set-sound}
 

@@ -15,11 +15,12 @@ use Rattle.std.proofs.shelf.Tests.{cases-eq, cases-bool, eqb-true, cases-lt}
 use Rattle.std.specs.declared.option.Option.{Option}
 use Rattle.std.specs.declared.option.Option.the-variants.{Some, None}
 use Rattle.deque.specs.declared.node.Node.{Node}
-use Rattle.deque.specs.Places.{is, pick, first, has, after, distinct}
-use Rattle.deque.specs.Views.{View, view-of, views, most, next-of, linked-of, element-of, linked-count}
+use Rattle.links.specs.Places.{is, pick, first, has, after, distinct}
+use Rattle.links.specs.Links.{most}
+use Rattle.deque.specs.Views.{View, view-of, views, next-of, linked-of, element-of, linked-count}
 use Rattle.deque.specs.Chain.{walk, State, Within}
 use Rattle.deque.specs.Edits.{edited, edited-at, next-to, prev-to, with-nodes, bridge-state, loose}
-use Rattle.deque.proofs.Orders.{head-apart, tail-apart, both-ways}
+use Rattle.links.proofs.Orders.{head-apart, tail-apart, both-ways}
 
 abbrev pub mapped : {T : Type 0} → (View T → View T) → Option (View T) → Option (View T)
 mapped f None = None

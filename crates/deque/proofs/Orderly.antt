@@ -11,10 +11,10 @@ use Rattle.std.proofs.shelf.Ways.{tells}
 use Rattle.std.proofs.shelf.Tests.{cases-eq, cases-bool, eqb-true}
 use Rattle.std.specs.declared.option.Option.{Option}
 use Rattle.std.specs.declared.option.Option.the-variants.{Some, None}
-use Rattle.deque.specs.Places.{has, last-from, last, distinct}
+use Rattle.links.specs.Places.{has, last-from, last, distinct}
 use Rattle.deque.specs.Meaning.{places, dropped, pushed, rest, found, replaced, entry, moved, free}
 use Rattle.deque.specs.Laws.{Turn, push, pop, turned, put-in, handed-out, all-in, all-out, left, Last-has-no-next, Moves-to-back, Unlink-then-push-moves, First-in-first-out}
-use Rattle.deque.proofs.Orders.{head-apart, tail-apart, has-later, last-later, after-last, eqb-same, both-ways}
+use Rattle.links.proofs.Orders.{head-apart, tail-apart, has-later, last-later, after-last, eqb-same, both-ways}
 
 module _ {T : Type 0} where
   -- ---- a node that is no item

@@ -12,14 +12,15 @@ use Rattle.std.proofs.shelf.Ways.{tells}
 use Rattle.std.proofs.shelf.Tests.{cases-eq, lt-ltb}
 use Rattle.std.specs.declared.option.Option.{Option}
 use Rattle.std.specs.declared.option.Option.the-variants.{Some, None}
-use Rattle.deque.specs.Places.{is, first, last, has, before, after, without}
-use Rattle.deque.specs.Views.{View, most, next-in, prev-in, element-in, linked-of, next-of, prev-of, element-of}
+use Rattle.links.specs.Places.{is, first, last, has, before, after, without}
+use Rattle.links.specs.Links.{most}
+use Rattle.deque.specs.Views.{View, next-in, prev-in, element-in, linked-of, next-of, prev-of, element-of}
 use Rattle.deque.specs.Chain.{State, order, meaning, Lies, Sound, Within, Cleared, Emptied}
 use Rattle.deque.specs.Edits.{push-state, cut-state, move-state, unlink-state, set-state}
 use Rattle.deque.specs.Meaning.{places, dropped, replaced, moved, free}
 use Rattle.deque.specs.Laws.{Each-once}
-use Rattle.deque.proofs.Orders
-use Rattle.deque.proofs.Orders.{both-ways, eqb-same, some-is, first-has}
+use Rattle.links.proofs.Orders
+use Rattle.links.proofs.Orders.{both-ways, eqb-same, some-is, first-has}
 use Rattle.deque.proofs.Soundness
 use Rattle.deque.proofs.Soundness.{out, kept, has-within, held-within, tail-within}
 use Rattle.deque.proofs.Items

@@ -16,12 +16,12 @@ use Rattle.std.specs.declared.result.Result.the-variants.{Ok, Err}
 use Rattle.deque.specs.declared.Deque.{Deque}
 use Rattle.deque.specs.declared.refusal.Refusal.{Refusal}
 use Rattle.deque.specs.declared.refusal.Refusal.the-variants.{NotLinked}
-use Rattle.deque.specs.Places.{has, after, distinct}
-use Rattle.deque.specs.Views.{most}
+use Rattle.links.specs.Places.{has, after, distinct}
+use Rattle.links.specs.Links.{most}
 use Rattle.deque.specs.Chain.{state, meaning, Lies}
 use Rattle.deque.specs.Meaning.{items, nodes, lent, value-at, places, dropped, moved, replaced, found, by-ok, when-linked, when-pushed, next-answer, found-answer}
 use Rattle.deque.specs.Laws.{Each-once, Moves-to-back, Last-has-no-next}
-use Rattle.deque.proofs.Orders.{after-none}
+use Rattle.links.proofs.Orders.{after-none}
 use Rattle.deque.proofs.Soundness.{out}
 use Rattle.deque.proofs.Items as items-of
 use Rattle.deque.proofs.Orderly as orderly

@@ -14,12 +14,13 @@ use Rattle.std.proofs.shelf.Ways.{tells}
 use Rattle.std.proofs.shelf.Tests.{cases-eq, cases-bool, eqb-true}
 use Rattle.std.specs.declared.option.Option.{Option}
 use Rattle.std.specs.declared.option.Option.the-variants.{Some, None}
-use Rattle.deque.specs.Places.{is, pick, first, last, has, after, before, without}
-use Rattle.deque.specs.Views.{View, most, next-in, prev-in, linked-in, linked-of, next-of, prev-of, linked-count}
+use Rattle.links.specs.Places.{is, pick, first, last, has, after, before, without}
+use Rattle.links.specs.Links.{most}
+use Rattle.deque.specs.Views.{View, next-in, prev-in, linked-in, linked-of, next-of, prev-of, linked-count}
 use Rattle.deque.specs.Chain.{walk, State, order, Lies, Sound, Within}
 use Rattle.deque.specs.Edits.{edited, edited-at, next-to, prev-to, element-to, loose, fresh, push-state, cut-state, move-state, unlink-state, set-state}
-use Rattle.deque.proofs.Orders
-use Rattle.deque.proofs.Orders.{option-set, both-ways}
+use Rattle.links.proofs.Orders
+use Rattle.links.proofs.Orders.{option-set, both-ways}
 use Rattle.deque.proofs.Memory
 
 abbrev loosened : {T : Type 0} → View T → View T

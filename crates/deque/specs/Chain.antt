@@ -9,8 +9,9 @@ use Rattle.std.specs.Joined.{joined}
 use Rattle.std.specs.declared.option.Option.{Option}
 use Rattle.std.specs.declared.option.Option.the-variants.{Some, None}
 use Rattle.deque.specs.declared.chain.Chain.{Chain}
-use Rattle.deque.specs.Places.{is, first, last, has, after, before, distinct}
-use Rattle.deque.specs.Views.{View, views, link-of, most, next-of, prev-of, linked-of, element-of, linked-count}
+use Rattle.links.specs.Places.{is, first, last, has, after, before, distinct}
+use Rattle.links.specs.Links.{goes-to, most}
+use Rattle.deque.specs.Views.{View, views, next-of, prev-of, linked-of, element-of, linked-count}
 
 -- the lent nodes, the ends of the order, how many are linked, and whose nodes these are
 pub record State (T : Type 0) : Type 0 where
@@ -22,7 +23,7 @@ pub record State (T : Type 0) : Type 0 where
 
 -- what the memory says
 abbrev pub state : {T : Type 0} → Chain T → State T
-state c = record { ns = views (now (c .nodes)); head = link-of (c .head); tail = link-of (c .tail); len = c .len; lender = name (c .nodes) }
+state c = record { ns = views (now (c .nodes)); head = goes-to (c .head); tail = goes-to (c .tail); len = c .len; lender = name (c .nodes) }
 
 -- o is the number of a lent node, if it is one at all
 abbrev pub Within : {T : Type 0} → Option ℕ → State T → Type 0

@@ -4,7 +4,7 @@ use mathlib.Core.Bool.{Bool, true, false}
 use Prim.Native.Nat.{ℕ, zero, suc, _+_, _-_}
 use Rattle.std.specs.declared.option.Option.{Option}
 use Rattle.std.specs.declared.option.Option.the-variants.{Some, None}
-use Rattle.deque.specs.Places.{pick}
+use Rattle.links.specs.Places.{pick}
 use Rattle.deque.specs.Views.{View, out-with, next-of, prev-of}
 use Rattle.deque.specs.Chain.{State}
 

@@ -5,7 +5,7 @@ use mathlib.Core.Bool.{Bool, true, false, cond}
 use Prim.Native.Nat.{ℕ, _<_}
 use Rattle.std.specs.declared.option.Option.{Option}
 use Rattle.std.specs.declared.option.Option.the-variants.{Some, None}
-use Rattle.deque.specs.Places.{has, last, after, distinct}
+use Rattle.links.specs.Places.{has, last, after, distinct}
 use Rattle.deque.specs.Meaning.{places, dropped, pushed, front, rest, found, moved, free}
 
 -- no node stands twice, and every linked node is lent

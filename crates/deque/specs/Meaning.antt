@@ -13,7 +13,7 @@ use Rattle.std.specs.declared.result.Result.the-variants.{Ok, Err}
 use Rattle.deque.specs.declared.Deque.{Deque}
 use Rattle.deque.specs.declared.refusal.Refusal.{Refusal}
 use Rattle.deque.specs.declared.refusal.Refusal.the-variants.{NotLinked, NotFree}
-use Rattle.deque.specs.Places.{has, after}
+use Rattle.links.specs.Places.{has, after}
 use Rattle.deque.specs.Views.{View, element-of}
 use Rattle.deque.specs.Chain.{State, state, meaning}
 

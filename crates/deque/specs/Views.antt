@@ -1,21 +1,12 @@
 -- What a node in memory says: its links as options, its mark, its element.
 use mathlib.Core.List.{List, [], _∷_, map}
 use mathlib.Core.Bool.{Bool, true, false, cond}
-use Prim.Native.Nat.{ℕ, suc, _-_, _^_}
-use lib.Dec.{eqb}
+use Prim.Native.Nat.{ℕ, suc}
 use Rattle.std.specs.Finite.{nth}
 use Rattle.std.specs.declared.option.Option.{Option}
 use Rattle.std.specs.declared.option.Option.the-variants.{Some, None}
-use Rattle.deque.specs.declared.link.Link.{Link}
+use Rattle.links.specs.Links.{goes-to}
 use Rattle.deque.specs.declared.node.Node.{Node}
-
--- as many nodes as can be lent: the numbers of 32 bits but the greatest, which stands for none
-abbrev pub most : ℕ
-most = 4294967295
-
--- the node that a link names, if it names one
-unfoldable pub link-of : Link → Option ℕ
-link-of l = cond (eqb (l .place) most) None (Some (l .place))
 
 -- what a node in memory says
 pub record View (T : Type 0) : Type 0 where
@@ -26,7 +17,7 @@ pub record View (T : Type 0) : Type 0 where
 
 -- what the node n says
 abbrev pub view-of : {T : Type 0} → Node T → View T
-view-of n = record { next = link-of (n .next); prev = link-of (n .prev); linked = n .linked; element = n .element }
+view-of n = record { next = goes-to (n .next); prev = goes-to (n .prev); linked = n .linked; element = n .element }
 
 -- what each of the nodes says
 abbrev pub views : {T : Type 0} → List (Node T) → List (View T)

@@ -6,8 +6,9 @@ ghost use Prim.Native.Nat.{ℕ, min};
 ghost use denote.Ref.{name};
 ghost use lib.ListN.{length, take};
 ghost use Rattle.std.specs.declared.option.Option.the-variants.{Some, None};
-ghost use Rattle.deque.specs.Places.{has, last};
-ghost use Rattle.deque.specs.Views.{most, views, element-of};
+ghost use Rattle.links.specs.Places.{has, last};
+ghost use Rattle.links.specs.Links.{most};
+ghost use Rattle.deque.specs.Views.{views, element-of};
 ghost use Rattle.deque.specs.Chain.{Lies};
 ghost use Rattle.deque.specs.Refusals.{refused-by};
 ghost use Rattle.deque.specs.Meaning.{items, nodes, lender, lent, value-at, places, pushed, dropped, front, rest, found, replaced, moved, free, by-ok, when-pushed, when-linked, next-answer, found-answer, at-place, Untouched};
@@ -15,12 +16,9 @@ ghost use Rattle.deque.specs.Laws.{Each-once, Last-has-no-next, Moves-to-back,
 use crate::Deque;
 use crate::chain::Chain;
 use crate::chain::take_out_all;
-use crate::link::Link;
 use crate::node::Node;
 use crate::refusal::Refusal;
-
-/// As many nodes as can be lent: the numbers that a link can name.
-const MOST: usize = 0xffff_ffff;
+use links::Link;
 
 impl<'n, T: Copy> Deque<'n, T> {
     /// An empty queue over the first nodes of the slice, 2^32 - 1 of them at most; each is taken out, and its element stays.
@@ -29,7 +27,7 @@ impl<'n, T: Copy> Deque<'n, T> {
         ensures size { λ r. ⌜ lent r ≡ min (length (now (nodes .entry))) most ⌝ }
         ensures values { λ r. ⌜ ((j : ℕ) → value-at r j ≡ element-of (take (lent r) (views (now (nodes .entry)))) j) ⌝ }
     {
-        let n = nodes.len().min(MOST);
+        let n = nodes.len().min(Link::MOST);
         let lent = &mut nodes[0..n];
         take_out_all(lent);
         Deque {
@@ -81,7 +79,7 @@ impl<'n, T: Copy> Deque<'n, T> {
         ensures values { λ r. ⌜ ((j : ℕ) → value-at (now (self .exit)) j ≡ value-at (now (self .entry)) j) ⌝ }
         ensures runs { λ r. ⌜ First-in-first-out (lent (now (self .entry))) (items (now (self .entry))) ⌝ }
     {
-        match self.chain.head.get() {
+        match self.chain.head.target() {
             None => None,
             Some(i) => {
                 let n = self.chain.node(i);
@@ -95,7 +93,7 @@ impl<'n, T: Copy> Deque<'n, T> {
     pub fn peek_front(&self) -> Option<(usize, T)>
         ensures { λ r. ⌜ r ≡ front (items (now (self .entry))) ⌝ }
     {
-        match self.chain.head.get() {
+        match self.chain.head.target() {
             None => None,
             Some(i) => Some((i, self.chain.node(i).element)),
         }
@@ -153,7 +151,7 @@ impl<'n, T: Copy> Deque<'n, T> {
         if !self.chain.is_linked(i) {
             return Err(Refusal::NotLinked);
         }
-        Ok(self.chain.node(i).next.get())
+        Ok(self.chain.node(i).next.target())
     }
 
     /// Whether node i is linked.

@@ -8,12 +8,13 @@ ghost use lib.Dec.{ltb};
 ghost use lib.ListN.{length};
 ghost use Rattle.std.specs.Finite.{nth};
 ghost use Rattle.std.specs.declared.option.Option.the-variants.{Some};
-ghost use Rattle.deque.specs.Places.{is, pick};
-ghost use Rattle.deque.specs.Views.{link-of, views, view-of, most, linked-of};
+ghost use Rattle.links.specs.Places.{is, pick};
+ghost use Rattle.links.specs.Links.{goes-to, most};
+ghost use Rattle.deque.specs.Views.{views, view-of, linked-of};
 ghost use Rattle.deque.specs.Chain.{state, Within, Cleared, Emptied};
 ghost use Rattle.deque.specs.Edits.{edited, edited-at, next-to, prev-to, element-to, loose, fresh, with-nodes, bridge-state, attach-state, push-state, cut-state, move-state};
-use crate::link::Link;
 use crate::node::Node;
+use links::Link;
 
 /// The lent nodes, the first and the last of the order, and how many are linked.
 #[derive(Drop)]
@@ -55,7 +56,7 @@ impl<T: Copy> Chain<'_, T> {
     pub(crate) fn is_last(&self, i: usize) -> bool
         ensures { λ r. ⌜ r ≡ is (state (now (self .entry)) .tail) i ⌝ }
     {
-        match self.tail.get() {
+        match self.tail.target() {
             None => false,
             Some(last) => i == last,
         }
@@ -76,10 +77,10 @@ impl<T: Copy> Chain<'_, T> {
     /// Node i out, where p stands before it and q after it.
     pub(crate) fn cut(&mut self, i: usize, p: Link, q: Link)
         requires here { ⌜ i < length (state (now self) .ns) ⌝ }
-        requires before { ⌜ Within (link-of p) (state (now self)) ⌝ }
-        requires after { ⌜ Within (link-of q) (state (now self)) ⌝ }
+        requires before { ⌜ Within (goes-to p) (state (now self)) ⌝ }
+        requires after { ⌜ Within (goes-to q) (state (now self)) ⌝ }
         requires some { ⌜ 0 < state (now self) .len ⌝ }
-        ensures { λ _. ⌜ state (now (self .exit)) ≡ cut-state (state (now (self .entry))) i (link-of p) (link-of q) ⌝ }
+        ensures { λ _. ⌜ state (now (self .exit)) ≡ cut-state (state (now (self .entry))) i (goes-to p) (goes-to q) ⌝ }
     {
         self.bridge(p, q);
         self.put_loose(i);
@@ -90,10 +91,10 @@ impl<T: Copy> Chain<'_, T> {
     pub(crate) fn send_back(&mut self, i: usize, p: Link, q: Link, x: T)
         requires here { ⌜ i < length (state (now self) .ns) ⌝ }
         requires small { ⌜ i < most ⌝ }
-        requires before { ⌜ Within (link-of p) (state (now self)) ⌝ }
-        requires after { ⌜ Within (link-of q) (state (now self)) ⌝ }
+        requires before { ⌜ Within (goes-to p) (state (now self)) ⌝ }
+        requires after { ⌜ Within (goes-to q) (state (now self)) ⌝ }
         requires tail { ⌜ Within (state (now self) .tail) (state (now self)) ⌝ }
-        ensures { λ _. ⌜ state (now (self .exit)) ≡ move-state (state (now (self .entry))) i (link-of p) (link-of q) x ⌝ }
+        ensures { λ _. ⌜ state (now (self .exit)) ≡ move-state (state (now (self .entry))) i (goes-to p) (goes-to q) x ⌝ }
     {
         self.bridge(p, q);
         self.attach(i, x);
@@ -119,9 +120,9 @@ impl<T: Copy> Chain<'_, T> {
 
     /// p and q side by side; where there is no p, q is the first, and where there is no q, p is the last.
     fn bridge(&mut self, p: Link, q: Link)
-        requires before { ⌜ Within (link-of p) (state (now self)) ⌝ }
-        requires after { ⌜ Within (link-of q) (state (now self)) ⌝ }
-        ensures { λ _. ⌜ state (now (self .exit)) ≡ bridge-state (state (now (self .entry))) (link-of p) (link-of q) ⌝ }
+        requires before { ⌜ Within (goes-to p) (state (now self)) ⌝ }
+        requires after { ⌜ Within (goes-to q) (state (now self)) ⌝ }
+        ensures { λ _. ⌜ state (now (self .exit)) ≡ bridge-state (state (now (self .entry))) (goes-to p) (goes-to q) ⌝ }
     {
         self.put_next(p, q);
         self.put_prev(q, p);
@@ -137,7 +138,7 @@ impl<T: Copy> Chain<'_, T> {
         ensures { λ _. ⌜ state (now (self .exit)) ≡ attach-state (state (now (self .entry))) i x ⌝ }
     {
         let old = self.tail;
-        let link = Link::some(i);
+        let link = Link::to(i);
         self.put_fresh(i, old, x);
         self.put_next(old, link);
         self.head = if_none(old, link, self.head);
@@ -146,20 +147,20 @@ impl<T: Copy> Chain<'_, T> {
 
     /// Where `at` names a node, its next is `to`.
     fn put_next(&mut self, at: Link, to: Link)
-        requires { ⌜ Within (link-of at) (state (now self)) ⌝ }
-        ensures { λ _. ⌜ state (now (self .exit)) ≡ with-nodes (state (now (self .entry))) (edited-at (next-to (link-of to)) (state (now (self .entry)) .ns) (link-of at)) ⌝ }
+        requires { ⌜ Within (goes-to at) (state (now self)) ⌝ }
+        ensures { λ _. ⌜ state (now (self .exit)) ≡ with-nodes (state (now (self .entry))) (edited-at (next-to (goes-to to)) (state (now (self .entry)) .ns) (goes-to at)) ⌝ }
     {
-        if let Some(i) = at.get() {
+        if let Some(i) = at.target() {
             self.put_next_at(i, to);
         }
     }
 
     /// Where `at` names a node, the one before it is `to`.
     fn put_prev(&mut self, at: Link, to: Link)
-        requires { ⌜ Within (link-of at) (state (now self)) ⌝ }
-        ensures { λ _. ⌜ state (now (self .exit)) ≡ with-nodes (state (now (self .entry))) (edited-at (prev-to (link-of to)) (state (now (self .entry)) .ns) (link-of at)) ⌝ }
+        requires { ⌜ Within (goes-to at) (state (now self)) ⌝ }
+        ensures { λ _. ⌜ state (now (self .exit)) ≡ with-nodes (state (now (self .entry))) (edited-at (prev-to (goes-to to)) (state (now (self .entry)) .ns) (goes-to at)) ⌝ }
     {
-        if let Some(i) = at.get() {
+        if let Some(i) = at.target() {
             self.put_prev_at(i, to);
         }
     }
@@ -167,7 +168,7 @@ impl<T: Copy> Chain<'_, T> {
     /// The next of node i is `to`.
     fn put_next_at(&mut self, i: usize, to: Link)
         requires { ⌜ i < length (now (now self .nodes)) ⌝ }
-        ensures { λ _. ⌜ state (now (self .exit)) ≡ with-nodes (state (now (self .entry))) (edited (next-to (link-of to)) (state (now (self .entry)) .ns) i) ⌝ }
+        ensures { λ _. ⌜ state (now (self .exit)) ≡ with-nodes (state (now (self .entry))) (edited (next-to (goes-to to)) (state (now (self .entry)) .ns) i) ⌝ }
     {
         self.nodes[i].next = to;
     }
@@ -175,7 +176,7 @@ impl<T: Copy> Chain<'_, T> {
     /// The node before node i is `to`.
     fn put_prev_at(&mut self, i: usize, to: Link)
         requires { ⌜ i < length (now (now self .nodes)) ⌝ }
-        ensures { λ _. ⌜ state (now (self .exit)) ≡ with-nodes (state (now (self .entry))) (edited (prev-to (link-of to)) (state (now (self .entry)) .ns) i) ⌝ }
+        ensures { λ _. ⌜ state (now (self .exit)) ≡ with-nodes (state (now (self .entry))) (edited (prev-to (goes-to to)) (state (now (self .entry)) .ns) i) ⌝ }
     {
         self.nodes[i].prev = to;
     }
@@ -183,7 +184,7 @@ impl<T: Copy> Chain<'_, T> {
     /// Node i with the element x as the last, behind p.
     fn put_fresh(&mut self, i: usize, p: Link, x: T)
         requires { ⌜ i < length (now (now self .nodes)) ⌝ }
-        ensures { λ _. ⌜ state (now (self .exit)) ≡ with-nodes (state (now (self .entry))) (edited (fresh (link-of p) x) (state (now (self .entry)) .ns) i) ⌝ }
+        ensures { λ _. ⌜ state (now (self .exit)) ≡ with-nodes (state (now (self .entry))) (edited (fresh (goes-to p) x) (state (now (self .entry)) .ns) i) ⌝ }
     {
         self.nodes[i] = Node {
             next: Link::none(),
@@ -204,9 +205,9 @@ impl<T: Copy> Chain<'_, T> {
 
 /// a where o is none, else b.
 fn if_none(o: Link, a: Link, b: Link) -> Link
-    ensures { λ r. ⌜ link-of r ≡ pick (link-of o) (link-of a) (link-of b) ⌝ }
+    ensures { λ r. ⌜ goes-to r ≡ pick (goes-to o) (goes-to a) (goes-to b) ⌝ }
 {
-    match o.get() {
+    match o.target() {
         None => a,
         Some(_) => b,
     }

@@ -14,7 +14,6 @@ ghost use Rattle.deque.specs.Chain.{Kept};
 
 mod calls;
 mod chain;
-mod link;
 pub mod node;
 pub mod refusal;
 

@@ -1,7 +1,7 @@
 //! One place of the memory that is lent to a queue.
 ghost use mathlib.Core.Path.{_≡_};
 ghost use Rattle.deque.specs.Views.{view-of, out-with};
-use crate::link::Link;
+use links::Link;
 
 /// An element with its links; the mark says whether a queue has it in its order.
 #[derive(Clone, Copy)]

@@ -10,10 +10,10 @@ use Rattle.std.proofs.shelf.Tests.{lt-ltb, le-ltb}
 use Rattle.std.specs.declared.option.Option.{Option}
 use Rattle.std.specs.declared.option.Option.the-variants.{Some, None}
 use Rattle.table.specs.declared.cell.Entry.{Entry}
-use Rattle.table.specs.Places.{count}
+use Rattle.links.specs.Places.{count}
 use Rattle.table.specs.Chain.{State, capacity, entry-at, live, Sound}
 use Rattle.table.specs.Calls.{Took}
-use Rattle.table.proofs.Orders
+use Rattle.links.proofs.Orders
 use Rattle.table.proofs.Soundness as sound
 
 module _ {A B : Type 0} where

@@ -15,9 +15,9 @@ use Rattle.std.specs.declared.option.Option.{Option}
 use Rattle.std.specs.declared.option.Option.the-variants.{Some, None}
 use Rattle.table.specs.declared.cell.Cell.{Cell}
 use Rattle.table.specs.declared.cell.Entry.{Entry}
-use Rattle.table.specs.Places.{is, has, seek}
+use Rattle.links.specs.Places.{is, has, seek}
 use Rattle.table.specs.Chain.{State, capacity, entry-in, link-of, link, spot, entry-at, head-in, head-of, head-at, first-of, key-in, key-of, walk, chain, Sound}
-use Rattle.table.proofs.Orders
+use Rattle.links.proofs.Orders
 use Rattle.table.proofs.Chains
 use Rattle.table.proofs.Soundness as sound
 use Rattle.table.proofs.Outcomes as outcomes
@@ -83,11 +83,11 @@ module _ {A B : Type 0} where
           let e = f .0 in
           let q : e .hash ≡ hashed k = w .hashes j e (f .1 .0) ∙ hashes (e .key) k (f .1 .1) in
           let sp : spot s j ≡ Some b = sound.held-spot s j e (f .1 .0) ∙ ap (λ (x : ℕ). Some (x % length (s .hs))) q in
-          let inn : has (chain s b) j ≡ true = sym (h .chains b .holds j) ∙ Orders.is-same sp in
+          let inn : has (chain s b) j ≡ true = sym (h .chains b .holds j) ∙ Orders.is-some sp in
           let g = Orders.seek-some (key-of alike (s .cs) k) (chain s b) j inn (key-entry alike s k j e (f .1 .0) ∙ f .1 .1) in
-          let d = found-held alike s h k b l (g .0) (Orders.is-same (g .1)) in
+          let d = found-held alike s h k b l (g .0) (Orders.is-some (g .1)) in
           let z : g .0 ≡ j = w .single (g .0) j (d .0) e (d .1 .0) (f .1 .0) (trans (d .0 .key) k (e .key) (d .1 .1) (symm (e .key) k (f .1 .1))) in
-          Orders.is-same (g .1 ∙ ap (λ (x : ℕ). Some x) z)
+          Orders.is-some (g .1 ∙ ap (λ (x : ℕ). Some x) z)
 
   -- what the search says of its answer
   abbrev pub Walked : (A → A → Bool) → (A → ℕ) → State A B → A → Option ℕ → Type 0
@@ -122,7 +122,7 @@ module _ {A B : Type 0} where
         | inr n ↦
             let l : 0 < length (s .hs) = omega arith in
             let q = w ∙ ap (seek (key-of alike (s .cs) k)) (chain-head s (hashed k) l) in
-            found-hit alike s h k (hashed k % length (s .hs)) (sound.mod-below (hashed k) (length (s .hs)) l) i (Orders.is-same (sym q ∙ e))
+            found-hit alike s h k (hashed k % length (s .hs)) (sound.mod-below (hashed k) (length (s .hs)) l) i (Orders.is-some (sym q ∙ e))
       ]
 
   pub find-found : (alike : A → A → Bool) (hashed : A → ℕ) (weighs : A → B → ℕ)

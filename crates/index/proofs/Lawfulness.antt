@@ -9,10 +9,10 @@ use Rattle.std.proofs.shelf.Tests.{cases-bool, eqb-true}
 use Rattle.std.specs.declared.option.Option.{Option}
 use Rattle.std.specs.declared.option.Option.the-variants.{Some, None}
 use Rattle.table.specs.declared.cell.Entry.{Entry}
-use Rattle.table.specs.Places.{is}
+use Rattle.links.specs.Places.{is}
 use Rattle.table.specs.Edits.{anew}
 use Rattle.table.specs.Calls.{anew-in}
-use Rattle.table.proofs.Orders
+use Rattle.links.proofs.Orders
 use Rattle.index.specs.Lawful.{hit, Lawful}
 
 module _ {A B : Type 0} (alike : A → A → Bool) (hashed : A → ℕ) (weighs : A → B → ℕ) where
@@ -93,7 +93,7 @@ module _ {A B : Type 0} (alike : A → A → Bool) (hashed : A → ℕ) (weighs 
     ];
     single = λ i j x y p o t. elim (cases-bool (is r i)) [
       | inl a ↦ elim (cases-bool (is r j)) [
-        | inl b ↦ same-place i j (Orders.is-some r i a) (Orders.is-some r j b)
+        | inl b ↦ same-place i j (Orders.some-is r i a) (Orders.some-is r j b)
         | inr b ↦
             let z : e ≡ x = new i x a p in
             absurd (Orders.both-ways (out j) (ap (λ (u : Option (Entry A B)). hit alike u (e .key)) (old j y b o) ∙ symm (e .key) (y .key) (ap (λ (u : Entry A B). alike (u .key) (y .key)) z ∙ t)))

@@ -15,7 +15,7 @@ use Rattle.std.specs.declared.option.Option.{Option}
 use Rattle.std.specs.declared.option.Option.the-variants.{Some, None}
 use Rattle.table.specs.declared.cell.Cell.{Cell}
 use Rattle.table.specs.declared.cell.Entry.{Entry}
-use Rattle.table.specs.Places.{is, has}
+use Rattle.links.specs.Places.{is, has}
 use Rattle.table.specs.Chain.{State, capacity, spot-in, entry-in, spot, entry-at, chain, Sound}
 use Rattle.table.proofs.Memory
 use Rattle.table.proofs.Soundness as sound

@@ -12,10 +12,10 @@ use Rattle.std.proofs.shelf.Tests.{cases-lt}
 use Rattle.std.specs.declared.option.Option.{Option}
 use Rattle.std.specs.declared.option.Option.the-variants.{Some, None}
 use Rattle.table.specs.declared.cell.Entry.{Entry}
-use Rattle.table.specs.Links.{most}
-use Rattle.table.specs.Places.{is}
+use Rattle.links.specs.Links.{most}
+use Rattle.links.specs.Places.{is}
 use Rattle.table.specs.Chain.{State, state, capacity, live, entry-at, Sound}
-use Rattle.table.proofs.Orders
+use Rattle.links.proofs.Orders
 use Rattle.table.proofs.Soundness as sound
 use Rattle.index.specs.declared.kept.Index.{Index}
 use Rattle.index.specs.Meaning.{parts, entries, capacity-in, held-in}

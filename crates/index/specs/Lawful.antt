@@ -5,7 +5,7 @@ use Prim.Native.Nat.{ℕ}
 use Rattle.std.specs.declared.option.Option.{Option}
 use Rattle.std.specs.declared.option.Option.the-variants.{Some, None}
 use Rattle.table.specs.declared.cell.Entry.{Entry}
-use Rattle.table.specs.Places.{is}
+use Rattle.links.specs.Places.{is}
 
 -- whether there is an entry, with a key that is the same as k
 abbrev pub hit : {A B : Type 0} → (A → A → Bool) → Option (Entry A B) → A → Bool

@@ -9,7 +9,7 @@ use Rattle.std.specs.Options.{isSome}
 use Rattle.std.specs.declared.option.Option.{Option}
 use Rattle.std.specs.declared.option.Option.the-variants.{Some, None}
 use Rattle.table.specs.declared.cell.Entry.{Entry}
-use Rattle.table.specs.Places.{has, distinct}
+use Rattle.links.specs.Places.{has, distinct}
 use Rattle.table.specs.Chain.{State, capacity, chain, entry-at}
 
 -- whether cell j is free: given up, and so in the chain past the last head, or never used

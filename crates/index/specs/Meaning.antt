@@ -5,7 +5,7 @@ use Rattle.std.specs.Options.{isSome}
 use Rattle.std.specs.declared.option.Option.{Option}
 use Rattle.table.specs.declared.cell.Cell.{Cell}
 use Rattle.table.specs.declared.cell.Entry.{Entry}
-use Rattle.table.specs.Places.{count}
+use Rattle.links.specs.Places.{count}
 use Rattle.table.specs.Chain.{State, state, entry-at, capacity}
 use Rattle.index.specs.declared.kept.Index.{Index}
 

@@ -6,7 +6,7 @@ ghost use lib.Dec.{eqb, ltb};
 ghost use lib.ListN.{length};
 ghost use Rattle.std.specs.Options.{isSome};
 ghost use Rattle.std.specs.declared.option.Option.the-variants.{Some, None};
-ghost use Rattle.table.specs.Places.{is, pick};
+ghost use Rattle.links.specs.Places.{is, pick};
 ghost use Rattle.table.specs.Chain.{capacity-of};
 ghost use Rattle.table.specs.Calls.{anew-in};
 ghost use Rattle.index.specs.Lawful.{hit, Finds, Lawful};
@@ -15,9 +15,9 @@ ghost use Rattle.index.specs.Meaning.{parts, entries, capacity-in, memory, hel
 use crate::kept::Index;
 use crate::search::find_in;
 use kinds::EntryKind;
+use links::Link;
 use table::Cell;
 use table::Entry;
-use table::Link;
 use table::Table;
 use table::clear_heads;
 

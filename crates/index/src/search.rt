@@ -1,7 +1,7 @@
 //! The walk along one chain.
 ghost use mathlib.Core.Path.{_≡_};
 ghost use lib.ListN.{length};
-ghost use Rattle.table.specs.Places.{seek};
+ghost use Rattle.links.specs.Places.{seek};
 ghost use Rattle.table.specs.Chain.{state, link-of, walk, first-of, key-of};
 use kinds::EntryKind;
 use table::Table;

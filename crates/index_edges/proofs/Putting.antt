@@ -8,7 +8,7 @@ use Rattle.std.proofs.shelf.Ways.{tells}
 use Rattle.std.specs.declared.option.Option.{Option}
 use Rattle.std.specs.declared.option.Option.the-variants.{Some, None}
 use Rattle.table.specs.declared.cell.Entry.{Entry}
-use Rattle.table.specs.Places.{is}
+use Rattle.links.specs.Places.{is}
 use Rattle.table.specs.Calls.{anew-in}
 use Rattle.index.specs.Lawful.{hit}
 

@@ -7,10 +7,10 @@ use kinds::Serials;
 use kinds::SerialsKind;
 use kinds::Tags;
 use kinds::TagsKind;
+use links::Link;
 use std::test::*;
 use table::Cell;
 use table::Entry;
-use table::Link;
 
 /// A cell as memory may be found: its mark says that it is held.
 fn found() -> Cell<u64, Reading> {

@@ -14,7 +14,7 @@ use Rattle.script.specs.declared.command.QueueCommand.the-variants.{Push, Pop, 
 use Rattle.deque.specs.declared.refusal.Refusal.{Refusal}
 use Rattle.deque.specs.declared.refusal.Refusal.the-variants.{NotLinked, NotFree}
 use Rattle.deque.specs.Refusals.{refusal-number}
-use Rattle.deque.specs.Places.{has, after}
+use Rattle.links.specs.Places.{has, after}
 use Rattle.deque.specs.Meaning.{places, pushed, dropped, front, rest, moved, free}
 
 -- the list after a command: a refused one changes nothing

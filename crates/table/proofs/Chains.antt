@@ -11,9 +11,9 @@ use Rattle.std.proofs.shelf.Ways.{tells}
 use Rattle.std.proofs.shelf.Tests.{cases-eq, cases-bool, eqb-true}
 use Rattle.std.specs.declared.option.Option.{Option}
 use Rattle.std.specs.declared.option.Option.the-variants.{Some, None}
-use Rattle.table.specs.Places.{is, pick, first, has, after, before-from, before, distinct, without, seek}
+use Rattle.links.specs.Places.{is, pick, first, has, after, before-from, before, distinct, without, seek}
 use Rattle.table.specs.Chain.{walk, prior, Chain}
-use Rattle.table.proofs.Orders
+use Rattle.links.proofs.Orders
 
 -- some list is the chain
 abbrev pub Some-chain : (ℕ → Option ℕ) → Option ℕ → (ℕ → Bool) → Type 0

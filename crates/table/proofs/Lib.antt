@@ -1,4 +1,3 @@
-pub mod Orders
 pub mod Memory
 pub mod Masks
 pub mod Chains

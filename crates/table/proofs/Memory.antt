@@ -12,7 +12,7 @@ use Rattle.std.proofs.shelf.Ways.{tells}
 use Rattle.std.proofs.shelf.Tests.{cases-eq, cases-bool, eqb-true}
 use Rattle.std.specs.declared.option.Option.{Option}
 use Rattle.std.specs.declared.option.Option.the-variants.{Some, None}
-use Rattle.table.specs.Places.{is}
+use Rattle.links.specs.Places.{is}
 use Rattle.table.specs.Edits.{edited, edited-at}
 
 abbrev pub mapped : {X : Type 0} → (X → X) → Option X → Option X

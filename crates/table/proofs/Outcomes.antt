@@ -15,14 +15,14 @@ use Rattle.std.specs.declared.option.Option.{Option}
 use Rattle.std.specs.declared.option.Option.the-variants.{Some, None}
 use Rattle.table.specs.declared.cell.Cell.{Cell}
 use Rattle.table.specs.declared.cell.Entry.{Entry}
-use Rattle.table.specs.declared.link.Link.{Link}
+use Rattle.links.specs.declared.Link.{Link}
 use Rattle.table.specs.declared.vacancy.Vacancy.{Vacancy}
-use Rattle.table.specs.Links.{goes-to, nowhere, most}
-use Rattle.table.specs.Places.{is, pick, first, has, before, count}
+use Rattle.links.specs.Links.{goes-to, nowhere, most}
+use Rattle.links.specs.Places.{is, pick, first, has, before, count}
 use Rattle.table.specs.Chain.{State, capacity, chain-in, link-in, spot-in, entry-in, link-of, link, spot, entry-at, live, head-of, head-at, prior, Chain, chain, Sound}
 use Rattle.table.specs.Edits.{edited-at, anew, chain-to, filled, emptied, join-state, freed, part-state, renew-state}
 use Rattle.table.specs.Calls.{anew-in, Marked, vacancy-of, vacancy-in, Took, Parted, Renewed, Emptied}
-use Rattle.table.proofs.Orders
+use Rattle.links.proofs.Orders
 use Rattle.table.proofs.Memory
 use Rattle.table.proofs.Chains
 use Rattle.table.proofs.Soundness as sound
@@ -78,7 +78,7 @@ module _ {A B : Type 0} where
             let sp : spot s j ≡ Some (length (s .hs)) = rw t (ap (spot-in (length (s .hs))) (c .1) ∙ rw y) in
             let k = h .chains (length (s .hs)) in
             let e : first (chain s (length (s .hs))) ≡ None = sym (k .starts) ∙ rw z f in
-            absurd (Orders.both-ways (k .holds j ∙ no-first (chain s (length (s .hs))) j e) (Orders.is-same sp))
+            absurd (Orders.both-ways (k .holds j ∙ no-first (chain s (length (s .hs))) j e) (Orders.is-some sp))
       ]
 
   leads : (o : Option (Cell A B)) → goes-to (chain-in o) ≡ link-in o
@@ -182,7 +182,7 @@ module _ {A B : Type 0} where
       let z : eqb (e .hash % length (s .hs)) (length (s .hs)) ≡ false = grind (arith, tells) in
       let q : head-at s (e .hash % length (s .hs)) ≡ head-of (s .hs) (e .hash % length (s .hs)) = rw z in
       ap (λ (x : Option ℕ). prior (link-of (s .cs)) (length (s .cs)) None x i) (sym q)
-      ∙ Chains.prior-is (link s) (length (s .cs)) None (head-at s (e .hash % length (s .hs))) i (sym (h .chains (e .hash % length (s .hs)) .holds i) ∙ Orders.is-same (sound.held-spot s i e o))
+      ∙ Chains.prior-is (link s) (length (s .cs)) None (head-at s (e .hash % length (s .hs))) i (sym (h .chains (e .hash % length (s .hs)) .holds i) ∙ Orders.is-some (sound.held-spot s i e o))
 
   pub part-parted : (s t : State A B) (i : ℕ) (c : Cell A B) (p : Option ℕ) → Sound s → Marked s i c
       → p ≡ prior (link-of (s .cs)) (length (s .cs)) None (head-of (s .hs) (c .entry .hash % length (s .hs))) i

@@ -18,12 +18,12 @@ use Rattle.std.specs.declared.option.Option.{Option}
 use Rattle.std.specs.declared.option.Option.the-variants.{Some, None}
 use Rattle.table.specs.declared.cell.Cell.{Cell}
 use Rattle.table.specs.declared.cell.Entry.{Entry}
-use Rattle.table.specs.declared.link.Link.{Link}
-use Rattle.table.specs.Links.{most, goes-to, to-cell, nowhere}
-use Rattle.table.specs.Places.{is, pick, first, has, after, before-from, before, distinct, without, seek, count}
+use Rattle.links.specs.declared.Link.{Link}
+use Rattle.links.specs.Links.{most, goes-to, to-place, nowhere}
+use Rattle.links.specs.Places.{is, pick, first, has, after, before-from, before, distinct, without, seek, count}
 use Rattle.table.specs.Chain.{State, capacity-of, capacity, link-in, spot-in, entry-in, link, spot, entry-at, live, head-in, head-of, head-at, walk, prior, Chain, chain, Sound}
 use Rattle.table.specs.Edits.{edited, edited-at, chain-to, filled, emptied, link-or, join-state, freed, relinked, vacated, part-state, renew-state}
-use Rattle.table.proofs.Orders
+use Rattle.links.proofs.Orders
 use Rattle.table.proofs.Memory
 use Rattle.table.proofs.Chains
 
@@ -74,7 +74,7 @@ pub capacity-same : (n m n′ m′ : ℕ) → n′ ≡ n → m′ ≡ m → capa
 capacity-same n m n′ m′ p q = ap (λ (x : ℕ). capacity-of x m′) p ∙ ap (capacity-of n) q
 
 -- ---- links
-pub goes-back : (i : ℕ) → i < most → goes-to (to-cell i) ≡ Some i
+pub goes-back : (i : ℕ) → i < most → goes-to (to-place i) ≡ Some i
 goes-back i l = let z : eqb i most ≡ false = grind (arith, tells) in rw z
 
 or-head : (o : Option Link) → goes-to (link-or o) ≡ head-in o
@@ -201,7 +201,7 @@ module _ {A B : Type 0} where
       t = join-state (freed s u f) i e
 
       cap : capacity t ≡ capacity s
-      cap = capacity-same (length (s .cs)) (length (s .hs)) (length (t .cs)) (length (t .hs)) (length-set (s .cs) i (filled e (link-or (nth (s .hs) b)))) (length-set (s .hs) b (to-cell i))
+      cap = capacity-same (length (s .cs)) (length (s .hs)) (length (t .cs)) (length (t .hs)) (length-set (s .cs) i (filled e (link-or (nth (s .hs) b)))) (length-set (s .hs) b (to-place i))
 
       l : i < length (s .cs)
       l = let z = capacity-cells (length (s .cs)) (length (s .hs)) in omega arith
@@ -220,7 +220,7 @@ module _ {A B : Type 0} where
 
       spots : (j : ℕ) → spot t j ≡ cond (eqb j i) (Some b) (spot s j)
       spots j =
-          ap (λ (x : ℕ). cond (ltb j u) (spot-in x (nth (t .cs) j)) None) (length-set (s .hs) b (to-cell i))
+          ap (λ (x : ℕ). cond (ltb j u) (spot-in x (nth (t .cs) j)) None) (length-set (s .hs) b (to-place i))
           ∙ at-set (spot-in (length (s .hs))) (s .cs) u (s .used) i (filled e (link-or (nth (s .hs) b))) l k w j
 
       head-b : goes-to (link-or (nth (s .hs) b)) ≡ head-at s b
@@ -233,8 +233,8 @@ module _ {A B : Type 0} where
 
       heads′ : (c : ℕ) → head-at t c ≡ cond (eqb c b) (Some i) (cond (is (spot s i) c) (link s i) (head-at s c))
       heads′ c =
-          ap (λ (x : ℕ). cond (eqb c x) (goes-to f) (head-of (t .hs) c)) (length-set (s .hs) b (to-cell i))
-          ∙ ap (λ (x : Option ℕ). cond (eqb c (length (s .hs))) (goes-to f) x) (head-set (s .hs) b (to-cell i) b-below c)
+          ap (λ (x : ℕ). cond (eqb c x) (goes-to f) (head-of (t .hs) c)) (length-set (s .hs) b (to-place i))
+          ∙ ap (λ (x : Option ℕ). cond (eqb c (length (s .hs))) (goes-to f) x) (head-set (s .hs) b (to-place i) b-below c)
           ∙ ap (λ (x : Option ℕ). cond (eqb c (length (s .hs))) (goes-to f) (cond (eqb c b) x (head-of (s .hs) c))) (goes-back i small)
           ∙ elim (cases-eq c b) [
             | inl q ↦ let z : eqb c b ≡ true = grind (arith, tells) in let y : eqb c (length (s .hs)) ≡ false = ap (λ (x : ℕ). eqb x (length (s .hs))) q ∙ b-not in rw (z, y)
@@ -256,10 +256,10 @@ module _ {A B : Type 0} where
 
   pub free-spot : (s : State A B) → Sound s → (i : ℕ) → goes-to (s .free) ≡ Some i → spot s i ≡ Some (length (s .hs))
   free-spot s h i f =
-      Orders.is-some (spot s i) (length (s .hs)) (h .chains (length (s .hs)) .holds i ∙ Orders.first-has (chain s (length (s .hs))) i (free-first s h i f))
+      Orders.some-is (spot s i) (length (s .hs)) (h .chains (length (s .hs)) .holds i ∙ Orders.first-has (chain s (length (s .hs))) i (free-first s h i f))
 
   pub free-used : (s : State A B) → Sound s → (i : ℕ) → goes-to (s .free) ≡ Some i → i < s .used
-  free-used s h i f = spot-used s i (length (s .hs)) (Orders.is-same (free-spot s h i f))
+  free-used s h i f = spot-used s i (length (s .hs)) (Orders.is-some (free-spot s h i f))
 
   pub reuse-sound : (s : State A B) (i : ℕ) (e : Entry A B) (f : Link) → Sound s → 0 < length (s .hs) → goes-to (s .free) ≡ Some i → goes-to f ≡ link s i → Sound (join-state (freed s (s .used) f) i e)
   reuse-sound s i e f h n q g =
@@ -311,7 +311,7 @@ module _ {A B : Type 0} where
       sp = held-spot s i e o
 
       in-b : is (spot s i) b ≡ true
-      in-b = Orders.is-same sp
+      in-b = Orders.is-some sp
 
       k : i < s .used
       k = spot-used s i b in-b
@@ -363,7 +363,7 @@ module _ {A B : Type 0} where
       ]
 
       peer : (j : ℕ) → is p j ≡ true → spot s j ≡ spot s i
-      peer j z = Orders.is-some (spot s j) b (peer-in j z) ∙ sym sp
+      peer j z = Orders.some-is (spot s j) b (peer-in j z) ∙ sym sp
 
       spots : (j : ℕ) → spot t j ≡ cond (eqb j i) (Some (length (s .hs))) (spot s j)
       spots j =
@@ -387,7 +387,7 @@ module _ {A B : Type 0} where
 
       heads : (c : ℕ) → head-at t c ≡ cond (eqb c (length (s .hs))) (Some i) (cond (is (spot s i) c) (pick p (link s i) (head-at s c)) (head-at s c))
       heads c =
-          ap (λ (x : ℕ). cond (eqb c x) (goes-to (to-cell i)) (head-of (t .hs) c)) hs-size
+          ap (λ (x : ℕ). cond (eqb c x) (goes-to (to-place i)) (head-of (t .hs) c)) hs-size
           ∙ ap (λ (x : Option ℕ). cond (eqb c (length (s .hs))) x (head-of (t .hs) c)) (goes-back i small)
           ∙ ap (λ (x : Option ℕ). cond (eqb c (length (s .hs))) (Some i) x) (heads-at p c)
           ∙ elim (cases-bool (eqb c (length (s .hs)))) [ inl z ↦ rw z | inr z ↦ rw (z, sp) ]
@@ -418,7 +418,7 @@ module _ {A B : Type 0} where
       sp = held-spot s i d o ∙ ap (λ (x : ℕ). Some (x % length (s .hs))) hash
 
       k : i < s .used
-      k = spot-used s i (e .hash % length (s .hs)) (Orders.is-same sp)
+      k = spot-used s i (e .hash % length (s .hs)) (Orders.is-some sp)
 
       l : i < length (s .cs)
       l = let a = h .size in let z = capacity-cells (length (s .cs)) (length (s .hs)) in let y = k in omega arith

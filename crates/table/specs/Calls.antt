@@ -12,8 +12,8 @@ use Rattle.std.specs.declared.option.Option.the-variants.{Some, None}
 use Rattle.table.specs.declared.cell.Cell.{Cell}
 use Rattle.table.specs.declared.cell.Entry.{Entry}
 use Rattle.table.specs.declared.vacancy.Vacancy.{Vacancy}
-use Rattle.table.specs.Links.{goes-to}
-use Rattle.table.specs.Places.{is, pick}
+use Rattle.links.specs.Links.{goes-to}
+use Rattle.links.specs.Places.{is, pick}
 use Rattle.table.specs.Chain.{State, capacity, chain-in, entry-at, Sound}
 use Rattle.table.specs.Edits.{anew}
 

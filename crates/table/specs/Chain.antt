@@ -12,10 +12,10 @@ use Rattle.std.specs.declared.option.Option.{Option}
 use Rattle.std.specs.declared.option.Option.the-variants.{Some, None}
 use Rattle.table.specs.declared.cell.Cell.{Cell}
 use Rattle.table.specs.declared.cell.Entry.{Entry}
-use Rattle.table.specs.declared.link.Link.{Link}
+use Rattle.links.specs.declared.Link.{Link}
 use Rattle.table.specs.declared.chained.Table.{Table}
-use Rattle.table.specs.Links.{goes-to, most, nowhere}
-use Rattle.table.specs.Places.{is, first, has, after, distinct, count}
+use Rattle.links.specs.Links.{goes-to, most, nowhere}
+use Rattle.links.specs.Places.{is, first, has, after, distinct, count}
 
 -- ---- the state
 -- the cells and heads as they lie, how many cells were ever used, the first free one of these, how many are held

@@ -8,9 +8,9 @@ use Rattle.std.specs.declared.option.Option.{Option}
 use Rattle.std.specs.declared.option.Option.the-variants.{Some, None}
 use Rattle.table.specs.declared.cell.Cell.{Cell}
 use Rattle.table.specs.declared.cell.Entry.{Entry}
-use Rattle.table.specs.declared.link.Link.{Link}
-use Rattle.table.specs.Links.{to-cell, nowhere}
-use Rattle.table.specs.Places.{pick}
+use Rattle.links.specs.declared.Link.{Link}
+use Rattle.links.specs.Links.{to-place, nowhere}
+use Rattle.links.specs.Places.{pick}
 use Rattle.table.specs.Chain.{State}
 
 -- f of what lies at place i
@@ -55,7 +55,7 @@ abbrev pub join-state : {A B : Type 0} → State A B → ℕ → Entry A B → S
 join-state s i e =
     record {
       cs = set (s .cs) i (filled e (link-or (nth (s .hs) (e .hash % length (s .hs)))));
-      hs = set (s .hs) (e .hash % length (s .hs)) (to-cell i);
+      hs = set (s .hs) (e .hash % length (s .hs)) (to-place i);
       used = s .used;
       free = s .free;
       held = s .held + 1;
@@ -78,7 +78,7 @@ relinked s p b v =
 
 -- cell i in front of the free ones
 abbrev pub vacated : {A B : Type 0} → State A B → ℕ → Entry A B → State A B
-vacated s i e = record { cs = set (s .cs) i (emptied e (s .free)); hs = s .hs; used = s .used; free = to-cell i; held = s .held - 1 }
+vacated s i e = record { cs = set (s .cs) i (emptied e (s .free)); hs = s .hs; used = s .used; free = to-place i; held = s .held - 1 }
 
 -- cell i out of chain b, where p stands before it and v leads on, and in front of the free ones
 abbrev pub part-state : {A B : Type 0} → State A B → ℕ → Entry A B → Option ℕ → ℕ → Link → State A B

@@ -1,5 +1,3 @@
-pub mod Links
-pub mod Places
 pub mod Chain
 pub mod Edits
 pub mod Calls

@@ -1,5 +1,5 @@
 //! One place of the lent memory.
-use crate::link::Link;
+use links::Link;
 
 /// What a held cell has: its meaning, whatever the layout.
 #[derive(Clone, Copy)]

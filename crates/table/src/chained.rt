@@ -7,8 +7,7 @@ ghost use Rattle.std.specs.Finite.{nth};
 ghost use Rattle.std.specs.declared.option.Option.the-variants.{Some, None};
 ghost use Rattle.table.specs.Chain.{state, capacity, link-of, head-of, first-of, prior};
 use crate::cell::Cell;
-use crate::link::Link;
-use crate::link::NOWHERE;
+use links::Link;
 
 /// Cells in chains. Chain b starts at head b; the free cells that were used before are in a chain that starts at
 /// `free`; cells from `used` on were never used. `held` counts the cells that are held.
@@ -87,7 +86,7 @@ impl<Key: Copy, Value: Copy> Table<'_, Key, Value> {
     pub fn capacity(&self) -> usize
         ensures { λ r. ⌜ r ≡ capacity (state (now (self .entry))) ⌝ }
     {
-        let most = NOWHERE as usize;
+        let most = Link::MOST;
         if self.heads.len() == 0 {
             0
         } else if self.cells.len() < most {

@@ -10,7 +10,6 @@
 //! taking and giving up are one move of one cell from a chain to the front of another.
 mod cell;
 mod chained;
-mod link;
 mod taking;
 mod vacancy;
 mod writes;
@@ -19,4 +18,3 @@ pub use cell::Cell;
 pub use cell::Entry;
 pub use chained::Table;
 pub use chained::clear_heads;
-pub use link::Link;

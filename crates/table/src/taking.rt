@@ -11,8 +11,8 @@ use crate::cell::Entry;
 use crate::chained::Table;
 use crate::chained::before;
 use crate::chained::clear_heads;
-use crate::link::Link;
 use crate::vacancy::Vacancy;
+use links::Link;
 
 impl<Key: Copy, Value: Copy> Table<'_, Key, Value> {
     /// Cell i, if it is held.

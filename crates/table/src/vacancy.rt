@@ -1,5 +1,5 @@
 //! Where the next entry goes.
-use crate::link::Link;
+use links::Link;
 
 /// A cell to take, and what the table's `used` and `free` are once it is taken.
 #[derive(Clone, Copy)]

@@ -3,13 +3,13 @@ ghost use mathlib.Core.Path.{_≡_};
 ghost use Prim.Native.Nat.{_+_, _<_, _^_};
 ghost use lib.ListN.{length, set};
 ghost use Rattle.std.specs.declared.option.Option.the-variants.{Some, None};
-ghost use Rattle.table.specs.Links.{most};
+ghost use Rattle.links.specs.Links.{most};
 ghost use Rattle.table.specs.Chain.{state};
 ghost use Rattle.table.specs.Edits.{with-cells, join-state, relinked, vacated};
 use crate::cell::Cell;
 use crate::cell::Entry;
 use crate::chained::Table;
-use crate::link::Link;
+use links::Link;
 
 impl<Key: Copy, Value: Copy> Table<'_, Key, Value> {
     /// Writes cell i whole.

@@ -2,7 +2,7 @@
 use mathlib.Core.Path.{sym, ap, _∙_, refl}
 use mathlib.Core.List.{List}
 use Prim.Native.Nat.{ℕ}
-use Rattle.deque.specs.Places.{has}
+use Rattle.links.specs.Places.{has}
 use Rattle.deque.specs.Chain.{state}
 use Rattle.deque.proofs.Soundness.{out}
 use Rattle.deque.proofs.Items.{member}

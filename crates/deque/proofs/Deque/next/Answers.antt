@@ -27,5 +27,5 @@ returns g c =
     let s = state (c .args .self .now .chain) in
     let k = c .args .self .now .kept in
     let e = among s k (c .args .i) (c .is-linked .result) true (c .is-linked .ensures) (c .if-not-is-linked .left) in
-    let n = c .get .ensures ∙ next-is s (out s k) (c .args .i) (view-of (c .node .result)) (c .node .ensures) in
+    let n = c .target .ensures ∙ next-is s (out s k) (c .args .i) (view-of (c .node .result)) (c .node .ensures) in
     record { answer = ap Ok n ∙ chosen (Ok _) (Err NotLinked) e; number = chosen None (Some 8) e; end = last-ends (meaning s) (apart-is s (out s k)) }

@@ -7,7 +7,7 @@ use lib.ListN.{length}
 use Rattle.std.specs.declared.option.Option.the-variants.{Some, None}
 use Rattle.std.specs.declared.result.Result.the-variants.{Ok, Err}
 use Rattle.deque.specs.declared.refusal.Refusal.the-variants.{NotLinked}
-use Rattle.deque.specs.Places.{has}
+use Rattle.links.specs.Places.{has}
 use Rattle.deque.specs.Views.{view-of, element-of}
 use Rattle.deque.specs.Chain.{state, meaning}
 use Rattle.deque.specs.Meaning.{places}

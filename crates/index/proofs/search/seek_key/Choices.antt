@@ -1,6 +1,6 @@
 use mathlib.Core.Path.{_≡_}
 use lib.ListN.{length}
-use Rattle.table.specs.Places.{seek}
+use Rattle.links.specs.Places.{seek}
 use Rattle.table.specs.Chain.{state, walk, link-of, key-of}
 use Rattle.index.proofs.search.seek_key.Given as given
 

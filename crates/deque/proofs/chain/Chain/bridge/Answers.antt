@@ -1,5 +1,5 @@
 -- After the first write the nodes are as many as before, so the second is at a lent node too.
-use Rattle.deque.specs.Views.{link-of}
+use Rattle.links.specs.Links.{goes-to}
 use Rattle.deque.specs.Chain.{state}
 use Rattle.deque.specs.Edits.{next-to}
 use Rattle.deque.proofs.Memory.{within-edited}
@@ -7,4 +7,4 @@ use Rattle.deque.proofs.chain.Chain.bridge.Needs as need
 
 pub put-prev-requires : need.put-prev-requires
 put-prev-requires g c κs =
-    within-edited (state (c .args .self .now)) (state (c .put-next .last .self)) (next-to (link-of (c .args .q))) (link-of (c .args .p)) _ (c .put-next .ensures) (c .pre .after)
+    within-edited (state (c .args .self .now)) (state (c .put-next .last .self)) (next-to (goes-to (c .args .q))) (goes-to (c .args .p)) _ (c .put-next .ensures) (c .pre .after)

@@ -2,14 +2,14 @@
 use mathlib.Core.Path.{ap}
 use native.Mathlib.Omega.{arith}
 use lib.ListN.{length}
-use Rattle.deque.specs.Views.{link-of}
+use Rattle.links.specs.Links.{goes-to}
 use Rattle.deque.specs.Chain.{State, state}
 use Rattle.deque.proofs.Memory.{length-views, length-bridge}
 use Rattle.deque.proofs.chain.Chain.cut.Needs as need
 
 pub put-loose-requires : need.put-loose-requires
 put-loose-requires g c κs =
-    let a = length-bridge (state (c .args .self .now)) (state (c .bridge .last .self)) (link-of (c .args .p)) (link-of (c .args .q)) (c .bridge .ensures) in
+    let a = length-bridge (state (c .args .self .now)) (state (c .bridge .last .self)) (goes-to (c .args .p)) (goes-to (c .args .q)) (c .bridge .ensures) in
     let b = length-views (c .bridge .last .self .nodes .now) in
     let h = c .pre .here in
     omega arith

@@ -1,7 +1,7 @@
 -- A link that names a node names a lent one.
 use mathlib.Core.Path.{sym}
 use native.Mathlib.Omega.{arith}
-use Rattle.deque.proofs.Orders.{is-some}
+use Rattle.links.proofs.Orders.{is-some}
 use Rattle.deque.proofs.Memory.{length-views}
 use Rattle.deque.proofs.chain.Chain.put_next.Needs as need
 

@@ -1,6 +1,6 @@
 -- After the neighbours are joined, node i and the last are lent still.
 use native.Mathlib.Omega.{arith}
-use Rattle.deque.specs.Views.{link-of}
+use Rattle.links.specs.Links.{goes-to}
 use Rattle.deque.specs.Chain.{state}
 use Rattle.deque.proofs.Memory.{length-bridge, tail-bridge}
 use Rattle.deque.proofs.chain.Chain.send_back.Needs as need
@@ -9,10 +9,10 @@ pub attach-requires : need.attach-requires
 attach-requires g c κs =
     let s = state (c .args .self .now) in
     let t = state (c .bridge .last .self) in
-    let a = length-bridge s t (link-of (c .args .p)) (link-of (c .args .q)) (c .bridge .ensures) in
+    let a = length-bridge s t (goes-to (c .args .p)) (goes-to (c .args .q)) (c .bridge .ensures) in
     let h = c .pre .here in
     record {
       here = omega arith;
       small = c .pre .small;
-      tail = tail-bridge s t (link-of (c .args .p)) (link-of (c .args .q)) (c .bridge .ensures) (c .pre .before) (c .pre .tail);
+      tail = tail-bridge s t (goes-to (c .args .p)) (goes-to (c .args .q)) (c .bridge .ensures) (c .pre .before) (c .pre .tail);
     }

@@ -1,6 +1,6 @@
 use mathlib.Core.Path.{refl, subst}
 use Prim.Native.Nat.{ℕ}
-use Rattle.table.specs.Places.{pick}
+use Rattle.links.specs.Places.{pick}
 use Rattle.table.specs.Chain.{state, entry-at}
 use Rattle.table.specs.Calls.{Took}
 use Rattle.table.proofs.Soundness as sound
