@@ -1,0 +1,108 @@
+-- A run, one call after another, and what it promises.
+use mathlib.Core.Path.{_≡_, refl, sym, ap, _∙_, subst}
+use mathlib.Core.List.{List, [], _∷_, _++_, append-assoc}
+use Prim.Native.Nat.{ℕ, suc, _+_, _<_, _≤_, _^_}
+use native.Mathlib.Omega.{arith}
+use lib.ListN.{length}
+use lib.Dec.{eqb}
+use Rattle.rules.specs.Fronts.{tally}
+use Rattle.rules.specs.Entries.{Kind, Lawful, Choices, Sizes, State, fresh, top, Call}
+use Rattle.rules.specs.Calls.{Outcome, cells-of}
+use Rattle.rules.specs.Runs.{Turn, Line, after, line, end, log}
+use Rattle.rules.specs.Ledger.{Ledger, empty, tickets-of, handing, entered, follow}
+use Rattle.rules.specs.Account.{Accounted, times, told-tickets, held-tickets, Right, Free, All-free, Account}
+use Rattle.rules.specs.Served.{Through, Served, Ran, Does}
+use Rattle.rules.proofs.Fronts.{tally-append}
+use Rattle.rules.proofs.Good.{good}
+use Rattle.rules.proofs.Moves.{bears}
+use Rattle.rules.proofs.Whole.{Stands, restand, turn-stands, ledger-on, fresh-stands, fresh-next, bears-held, in-turn-of, account}
+
+module _ {Key Value : Type 0} (kind : Kind Key Value) (choices : Choices) (sizes : Sizes) where
+  -- ---- one call more
+
+  log-more : (s : State Key Value) (ts : List (Turn Key Value)) (t : Turn Key Value)
+      → log kind choices sizes s (ts ++ (t ∷ [])) ≡ log kind choices sizes s ts ++ (line kind choices sizes (end kind choices sizes s ts) t ∷ [])
+  unfolding log end
+  log-more s [] t = refl
+  log-more s (u ∷ ts) t = ap (λ (l : List (Line Key Value)). line kind choices sizes s u ∷ l) (log-more (after kind choices sizes s u) ts t)
+
+  end-more : (s : State Key Value) (ts : List (Turn Key Value)) (t : Turn Key Value) → end kind choices sizes s (ts ++ (t ∷ [])) ≡ after kind choices sizes (end kind choices sizes s ts) t
+  unfolding end
+  end-more s [] t = refl
+  end-more s (u ∷ ts) t = end-more (after kind choices sizes s u) ts t
+
+  free-more : (s : State Key Value) (ts : List (Turn Key Value)) (t : Turn Key Value) → All-free kind choices sizes s ts → Free kind choices sizes (end kind choices sizes s ts) t → All-free kind choices sizes s (ts ++ (t ∷ []))
+  unfolding All-free end
+  free-more s [] t fr f = (f, tt)
+  free-more s (u ∷ ts) t fr f = (fr .0, free-more (after kind choices sizes s u) ts t (fr .1) f)
+
+  log-length : (s : State Key Value) (ts : List (Turn Key Value)) → length (log kind choices sizes s ts) ≡ length ts
+  unfolding log
+  log-length s [] = refl
+  log-length s (u ∷ ts) = ap suc (log-length (after kind choices sizes s u) ts)
+
+  pub ran-none : Ran kind choices sizes [] fresh
+  unfolding log end All-free
+  ran-none = record { turns = []; told = refl; ends = refl; free = tt }
+
+  pub ran-more : (lines : List (Line Key Value)) (s : State Key Value) → Ran kind choices sizes lines s → (t : Turn Key Value) → Free kind choices sizes s t
+      → Ran kind choices sizes (lines ++ (line kind choices sizes s t ∷ [])) (after kind choices sizes s t)
+  ran-more lines s r t f =
+      let e = r .ends in
+      record {
+        turns = r .turns ++ (t ∷ []);
+        told = log-more fresh (r .turns) t ∙ (λ i. r .told i ++ (line kind choices sizes (e i) t ∷ []));
+        ends = end-more fresh (r .turns) t ∙ ap (λ (z : State Key Value). after kind choices sizes z t) e;
+        free = free-more fresh (r .turns) t (r .free) (subst (λ (z : State Key Value). Free kind choices sizes z t) (sym e) f);
+      }
+
+  -- the same from what a call promises
+  pub ran-does : (lines : List (Line Key Value)) (s : State Key Value) → Ran kind choices sizes lines s → (c : Call Key Value) (o : Outcome Key Value) → Does kind choices sizes s c o
+      → Ran kind choices sizes (lines ++ (record { call = c; answer = o .answer; departures = o .departures } ∷ [])) (o .state)
+  ran-does lines s r c o d =
+      let t : Turn Key Value = record { free = d .free; call = c } in
+      subst (λ (p : Outcome Key Value). Ran kind choices sizes (lines ++ (record { call = c; answer = p .answer; departures = p .departures } ∷ [])) (p .state)) (d .steps)
+      (ran-more lines s r t (subst (λ (p : Outcome Key Value). times (d .free) (cells-of (p .state .touch)) ≤ 1) (sym (d .steps)) (d .alone)))
+
+  -- ---- the theorem of a log
+
+  accounted-of : (s : State Key Value) (l : Ledger Key Value) (told handed : List ℕ) → Stands kind choices sizes s l (λ n. times n told) (λ n. times n handed) → Accounted told handed (tickets-of (l .touch))
+  accounted-of s l told handed st =
+      let h : (n : ℕ) → times n (tickets-of (l .touch)) ≡ tally (bears n) (s .touch) = λ n. ap (times n) (sym (in-turn-of kind choices sizes s l (st .same))) ∙ bears-held kind choices sizes s n in
+      record {
+        only-handed = λ t e. omega (arith, st .sums t);
+        once = λ t. omega (arith, st .sums t, st .one t);
+        others-held = λ t e z. omega (arith, st .sums t, h t);
+        held-others = λ t e. (omega (arith, st .sums t, h t), omega (arith, st .sums t, st .one t, h t));
+      }
+
+  goes-through : Lawful kind → (ts : List (Turn Key Value)) (s : State Key Value) (l : Ledger Key Value) (told handed : List ℕ)
+      → Stands kind choices sizes s l (λ n. times n told) (λ n. times n handed) → s .next + length ts < top → All-free kind choices sizes s ts
+      → Through kind choices sizes l told handed (log kind choices sizes s ts)
+  unfolding Through log All-free
+  goes-through law [] s l told handed st room fr = accounted-of s l told handed st
+  goes-through law (t ∷ ts) s l told handed st room fr =
+      let x = line kind choices sizes s t in
+      let s′ = after kind choices sizes s t in
+      let l′ = ledger-on kind choices sizes l x in
+      let one = turn-stands kind choices sizes law s l (λ n. times n told) (λ n. times n handed) t st (omega arith) (fr .0) in
+      let g = good kind choices sizes (t .free) s (st .ok) law (omega arith) (t .call) (fr .0) in
+      let st′ = restand kind choices sizes s′ l′ (λ n. times n told + times n (told-tickets (x .departures))) (λ n. times n handed + times n (handing (x .answer)))
+      (λ n. times n (told ++ told-tickets (x .departures))) (λ n. times n (handed ++ handing (x .answer))) (one .0)
+      (λ n. sym (tally-append (λ y. eqb y n) told (told-tickets (x .departures)))) (λ n. sym (tally-append (λ y. eqb y n) handed (handing (x .answer)))) in (
+        accounted-of s l told handed st,
+        subst (λ (k : Ledger Key Value). Right kind choices sizes k (x .call) (x .answer) (x .departures)) (sym (st .same)) (g .right),
+        goes-through law ts s′ l′ (told ++ told-tickets (x .departures)) (handed ++ handing (x .answer)) st′ (omega (arith, one .1)) (fr .1),
+      )
+
+  pub served : Lawful kind → (lines : List (Line Key Value)) (s : State Key Value) → Ran kind choices sizes lines s → length lines < 2 ^ 32 → Served kind choices sizes lines s
+  served law lines s r few =
+      let n : length (r .turns) < 2 ^ 32 = omega (arith, log-length fresh (r .turns), ap length (r .told)) in
+      record {
+        through = subst (Through kind choices sizes empty [] []) (r .told)
+            (goes-through law (r .turns) fresh empty [] [] (fresh-stands kind choices sizes) (omega (arith, fresh-next kind choices sizes)) (r .free));
+        in-turn =
+            ap (held-tickets) (sym (r .ends))
+            ∙ account kind choices sizes law (r .turns) n (r .free) .in-turn
+            ∙ ap (λ (z : List (Line Key Value)). tickets-of (follow kind choices sizes empty z .touch)) (r .told);
+      }

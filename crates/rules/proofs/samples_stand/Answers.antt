@@ -1,0 +1,36 @@
+use mathlib.Core.Path.{refl}
+use lib.Ieee.{size, span, climb}
+use Rattle.rules.specs.Words.{counter, raised, counters, packed, halved, oddOnes, odds}
+use Rattle.rules.specs.Sketch.{place, number, held, estimate, raiseAt, raiseAll, rises, halveAll, oddsAll, closed, frequency, doubled, leastPow2, capacity, opened, halvedSketch, aged, counted, incremented}
+use Rattle.rules.specs.Near as near
+use Rattle.rules.specs.Entries.{fresh}
+use Rattle.rules.specs.Calls.{leave, life-pass, idle-pass, trim-pass, passed, passes-told, touch-entry, replace-entry, admit, verdict, step}
+use Rattle.rules.specs.Rules.{opening-size, opening}
+use Rattle.rules.specs.Runs.{end, log}
+use Rattle.rules.specs.Hub.{serials, tags}
+use Rattle.rules.proofs.samples_stand.Needs as need
+
+pub returns : need.returns
+unfolding size span climb counter raised counters packed halved oddOnes odds place number held estimate raiseAt raiseAll rises halveAll oddsAll closed frequency doubled leastPow2 capacity opened halvedSketch aged counted incremented near.opened fresh opening-size opening leave life-pass idle-pass trim-pass passed passes-told touch-entry replace-entry admit verdict step end log serials tags
+returns c = record {
+  rows-1-2 = refl;
+  row-3 = refl;
+  row-4 = refl;
+  row-4-recorded = refl;
+  row-5 = refl;
+  row-6 = refl;
+  row-7 = refl;
+  row-7-held = refl;
+  row-8 = refl;
+  row-8-count = refl;
+  row-8-held = refl;
+  row-9 = refl;
+  row-9-three = refl;
+  row-9-weights = refl;
+  row-9-recorded = refl;
+  row-10 = refl;
+  row-10-replaced = refl;
+  row-10-recorded = refl;
+  row-11 = refl;
+  row-11-sample = refl;
+}

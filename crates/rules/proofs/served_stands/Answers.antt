@@ -1,0 +1,19 @@
+use Rattle.rules.specs.Entries.{Lawful}
+use Rattle.rules.specs.Account.{kind-of}
+use Rattle.rules.proofs.Served.{served}
+use Rattle.rules.proofs.served_stands.Needs as need
+
+pub returns : need.returns
+returns g c =
+    let k = g .K·EntryKind in
+    let law = g .K·EntryKind·met in
+    let kind = kind-of (k .alike) (k .hashed) (k .weighs) (k .weighed) in
+    let lawful : Lawful kind = record {
+      reflexive = law .reflexive;
+      symmetric = law .symmetric;
+      transitive = law .transitive;
+      same-hash = law .hashes;
+      same-weight = law .weights;
+      weighs-one = law .one;
+    } in
+    λ choices sizes lines s r few. served kind choices sizes lawful lines s r few

@@ -1,0 +1,255 @@
+-- What each call does: the state after it, the answer, and who left.
+use mathlib.Core.Bool.{Bool, true, false, cond, _&&_, _||_}
+use mathlib.Core.List.{List, [], _∷_, _++_, map}
+use Prim.Native.Nat.{ℕ, _+_, _-_, _*_, _/_, _^_, min}
+use lib.ListN.{length, take}
+use lib.Dec.{eqb, leb, ltb}
+use Rattle.std.specs.declared.option.Option.{Option}
+use Rattle.std.specs.declared.option.Option.the-variants.{Some, None}
+use Rattle.rules.specs.Fronts.{total, without, passing, freeing, first, among, looked}
+use Rattle.rules.specs.Sketch.{Sketch, frequency, incremented, opened}
+use Rattle.rules.specs.Rules.{over, plus, excess, fits, within, kept, batch, opening}
+use Rattle.rules.specs.Entries.{Kind, Choices, Sizes, Entry, State, Call, Answer, Cause, Departure, top, latest}
+use Rattle.rules.specs.Entries.{Get, Contains, Insert, Invalidate, Sweep}
+use Rattle.rules.specs.Entries.{Hit, Miss, Yes, No, New, Replaced, TurnedAway, Struck, Absent, Swept, Refused}
+use Rattle.rules.specs.Entries.{LivedOut, IdledOut, Trimmed, Outvoted, StruckOut, SweptOut}
+
+-- what becomes of a newcomer: it fits, or gets in by a run that leaves for it, or is turned away
+pub data Verdict (A : Type 0) : Type 0 where
+  Fits : Verdict A
+  Outvotes : List A → Verdict A
+  Loses : Verdict A
+
+-- nobody is in a run
+abbrev pub none : {A : Type 0} → List A → Bool
+none [] = true
+none (x ∷ xs) = false
+
+module _ {Key Value : Type 0} where
+  -- ---- leaving
+
+  abbrev pub cells-of : List (Entry Key Value) → List ℕ
+  cells-of es = map (λ (e : Entry Key Value). e .cell) es
+
+  -- these entries leave, with their weights
+  unfoldable pub leave : List (Entry Key Value) → State Key Value → State Key Value
+  leave es s = record {
+    touch = without (λ (e : Entry Key Value). among (cells-of es) (e .cell)) (s .touch);
+    write = without (among (cells-of es)) (s .write);
+    next = s .next;
+    recorded = s .recorded - total (λ (e : Entry Key Value). e .weight) es;
+    count = s .count - length es;
+    sketch = s .sketch;
+  }
+
+  -- how a departure is told
+  abbrev pub told : Cause → List (Entry Key Value) → List Departure
+  told why es = map (λ (e : Entry Key Value). record { ticket = e .ticket; cause = why }) es
+
+  -- the entries in write order
+  abbrev pub written : State Key Value → List (Entry Key Value)
+  written s = looked (λ (e : Entry Key Value). e .cell) (s .touch) (s .write)
+
+  -- ---- the passes
+
+  module _ (choices : Choices) (now : ℕ) where
+    abbrev pub lived-out : Entry Key Value → Bool
+    lived-out e = over (choices .life) (e .written) now
+
+    abbrev pub idled-out : Entry Key Value → Bool
+    idled-out e = over (choices .idle) (e .touched) now
+
+    abbrev pub expired : Entry Key Value → Bool
+    expired e = lived-out e || idled-out e
+
+    -- whom each pass takes
+    unfoldable pub life-pass : State Key Value → List (Entry Key Value)
+    life-pass s = batch (passing lived-out (written s))
+
+    unfoldable pub idle-pass : State Key Value → List (Entry Key Value)
+    idle-pass s = batch (passing idled-out (s .touch))
+
+    unfoldable pub trim-pass : State Key Value → List (Entry Key Value)
+    trim-pass s = batch (freeing (λ (e : Entry Key Value). e .weight) (excess (choices .capacity) (s .recorded)) (s .touch))
+
+    abbrev pub after-life : State Key Value → State Key Value
+    after-life s = leave (life-pass s) s
+
+    abbrev pub after-idle : State Key Value → State Key Value
+    after-idle s = leave (idle-pass (after-life s)) (after-life s)
+
+    -- the state after the three passes
+    unfoldable pub passed : State Key Value → State Key Value
+    passed s = leave (trim-pass (after-idle s)) (after-idle s)
+
+    -- the departures of the three passes
+    unfoldable pub passes-told : State Key Value → List Departure
+    passes-told s = told LivedOut (life-pass s) ++ (told IdledOut (idle-pass (after-life s)) ++ told Trimmed (trim-pass (after-idle s)))
+
+  -- ---- entries that change
+
+  -- an entry goes to the back of the touch order
+  abbrev pub to-back : Entry Key Value → List (Entry Key Value) → List (Entry Key Value)
+  to-back e es = without (λ (x : Entry Key Value). eqb (x .cell) (e .cell)) es ++ (e ∷ [])
+
+  abbrev pub touched-at : ℕ → Entry Key Value → Entry Key Value
+  touched-at now e = record {
+    cell = e .cell;
+    key = e .key;
+    value = e .value;
+    weight = e .weight;
+    hash = e .hash;
+    touched = now;
+    written = e .written;
+    ticket = e .ticket;
+  }
+
+  abbrev pub rewritten : Value → ℕ → ℕ → Entry Key Value → Entry Key Value
+  rewritten v w now e = record {
+    cell = e .cell;
+    key = e .key;
+    value = v;
+    weight = w;
+    hash = e .hash;
+    touched = now;
+    written = now;
+    ticket = e .ticket;
+  }
+
+  -- a hit
+  unfoldable pub touch-entry : ℕ → Entry Key Value → State Key Value → State Key Value
+  touch-entry now e s = record {
+    touch = to-back (touched-at now e) (s .touch);
+    write = s .write;
+    next = s .next;
+    recorded = s .recorded;
+    count = s .count;
+    sketch = s .sketch;
+  }
+
+  -- a held key's new value
+  unfoldable pub replace-entry : Option ℕ → Value → ℕ → ℕ → Entry Key Value → State Key Value → State Key Value
+  replace-entry life v w now e s = record {
+    touch = to-back (rewritten v w now e) (s .touch);
+    write = kept life (without (λ c. eqb c (e .cell)) (s .write) ++ (e .cell ∷ []));
+    next = s .next;
+    recorded = plus (s .recorded - e .weight) w;
+    count = s .count;
+    sketch = s .sketch;
+  }
+
+  -- a newcomer goes last in both orders
+  unfoldable pub admit : Option ℕ → Entry Key Value → State Key Value → State Key Value
+  admit life e s = record {
+    touch = s .touch ++ (e ∷ []);
+    write = kept life (s .write ++ (e .cell ∷ []));
+    next = plus (s .next) 1;
+    recorded = plus (s .recorded) (e .weight);
+    count = plus (s .count) 1;
+    sketch = s .sketch;
+  }
+
+  abbrev pub with-sketch : Sketch → State Key Value → State Key Value
+  with-sketch k s = record { touch = s .touch; write = s .write; next = s .next; recorded = s .recorded; count = s .count; sketch = k }
+
+  module _ (kind : Kind Key Value) where
+    -- the entry of a key
+    abbrev pub held : Key → State Key Value → Option (Entry Key Value)
+    held k s = first (λ (e : Entry Key Value). kind .alike (e .key) k) (s .touch)
+
+    -- a run's popularity
+    abbrev pub popularity : Sketch → List (Entry Key Value) → ℕ
+    popularity k es = total (λ (e : Entry Key Value). frequency k (e .hash)) es
+
+    abbrev pub newcomer : ℕ → Key → Value → ℕ → ℕ → Entry Key Value
+    newcomer cell k v now ticket = record {
+      cell = cell;
+      key = k;
+      value = v;
+      weight = kind .weighs k v;
+      hash = kind .hashed k;
+      touched = now;
+      written = now;
+      ticket = ticket;
+    }
+
+    module _ (choices : Choices) where
+      -- the vote: the shortest run that frees the newcomer's weight, against the newcomer
+      abbrev pub vote : ℕ → ℕ → List (Entry Key Value) → Sketch → Verdict (Entry Key Value)
+      vote w hash run k =
+          cond ((within (choices .capacity) w && leb w (total (λ (e : Entry Key Value). e .weight) run)) && ltb (popularity k run) (frequency k hash))
+          (Outvotes run) Loses
+
+      -- the decision on a newcomer, which changes nothing
+      unfoldable pub verdict : Key → Value → State Key Value → Verdict (Entry Key Value)
+      verdict k v s =
+          cond (fits (choices .capacity) (s .recorded) (kind .weighs k v)) Fits
+          (vote (kind .weighs k v) (kind .hashed k) (freeing (λ (e : Entry Key Value). e .weight) (kind .weighs k v) (s .touch)) (s .sketch))
+
+-- what a call leaves: the state after it, its answer, and who left
+pub record Outcome (Key Value : Type 0) : Type 0 where
+  pub state : State Key Value
+  pub answer : Answer Value
+  pub departures : List Departure
+
+module _ {Key Value : Type 0} where
+  abbrev pub outcome : State Key Value → Answer Value → List Departure → Outcome Key Value
+  outcome s a ds = record { state = s; answer = a; departures = ds }
+
+  -- ---- the calls after their passes; ds is what the passes told
+
+  -- get: the sketch has counted the key already
+  abbrev pub got : Choices → ℕ → Option (Entry Key Value) → State Key Value → List Departure → Outcome Key Value
+  got choices now None s ds = outcome s Miss ds
+  got choices now (Some e) s ds = cond (expired choices now e) (outcome s Miss ds) (outcome (touch-entry now e s) (Hit (e .value)) ds)
+
+  abbrev pub asked : Choices → ℕ → Option (Entry Key Value) → State Key Value → List Departure → Outcome Key Value
+  asked choices now None s ds = outcome s No ds
+  asked choices now (Some e) s ds = outcome s (cond (expired choices now e) No Yes) ds
+
+  abbrev pub struck : Option (Entry Key Value) → State Key Value → List Departure → Outcome Key Value
+  struck None s ds = outcome s Absent ds
+  struck (Some e) s ds = outcome (leave (e ∷ []) s) Struck (ds ++ told StruckOut (e ∷ []))
+
+  -- an instant too late is refused, and changes nothing
+  abbrev pub timely : ℕ → State Key Value → Outcome Key Value → Outcome Key Value
+  timely now s o = cond (leb now latest) o (outcome s (Refused 6) [])
+
+  -- no cell is free
+  abbrev pub full : Sizes → State Key Value → Bool
+  full sizes s = leb (sizes .cells) (length (s .touch))
+
+  abbrev pub counted : Kind Key Value → Key → State Key Value → State Key Value
+  counted kind k s = with-sketch (incremented (s .sketch) (kind .hashed k)) s
+
+  -- the sketch after a newcomer that fitted
+  abbrev pub opened-sketch : Kind Key Value → Choices → Sizes → State Key Value → State Key Value
+  opened-sketch kind choices sizes s =
+      with-sketch (opening (kind .weighed) (sizes .words) (s .count) (s .recorded) (choices .capacity) (s .sketch)) s
+
+module _ {Key Value : Type 0} (kind : Kind Key Value) (choices : Choices) (sizes : Sizes) (free : ℕ) where
+  abbrev pub joined : Key → Value → ℕ → State Key Value → State Key Value
+  joined k v now s = admit (choices .life) (newcomer kind free k v now (s .next)) s
+
+  -- a newcomer, by its verdict
+  abbrev pub came : Key → Value → ℕ → Verdict (Entry Key Value) → State Key Value → List Departure → Outcome Key Value
+  came k v now Fits s ds =
+      cond (full sizes s) (outcome s (Refused 7) ds) (outcome (opened-sketch kind choices sizes (joined k v now s)) (New (s .next)) ds)
+  came k v now (Outvotes run) s ds =
+      cond (none run && full sizes s) (outcome s (Refused 7) ds) (outcome (joined k v now (leave run s)) (New (s .next)) (ds ++ told Outvoted run))
+  came k v now Loses s ds = outcome s TurnedAway ds
+
+  abbrev pub inserted : Key → Value → ℕ → Option (Entry Key Value) → State Key Value → List Departure → Outcome Key Value
+  inserted k v now None s ds = came k v now (verdict kind choices k v s) s ds
+  inserted k v now (Some e) s ds = outcome (replace-entry (choices .life) v (kind .weighs k v) now e s) (Replaced (e .ticket)) ds
+
+  -- ---- the calls
+
+  unfoldable pub step : State Key Value → Call Key Value → Outcome Key Value
+  step s (Get k now) =
+      timely now s (got choices now (held kind k (passed choices now s)) (counted kind k (passed choices now s)) (passes-told choices now s))
+  step s (Contains k now) = timely now s (asked choices now (held kind k (passed choices now s)) (passed choices now s) (passes-told choices now s))
+  step s (Insert k v now) = timely now s (inserted k v now (held kind k (passed choices now s)) (passed choices now s) (passes-told choices now s))
+  step s (Invalidate k now) = timely now s (struck (held kind k (passed choices now s)) (passed choices now s) (passes-told choices now s))
+  step s Sweep =
+      outcome (record { touch = []; write = []; next = s .next; recorded = 0; count = 0; sketch = s .sketch }) Swept (told SweptOut (s .touch))

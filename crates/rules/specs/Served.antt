@@ -1,0 +1,45 @@
+-- What a served list of calls promises, said of its log alone and of the cache at the end.
+use mathlib.Core.Path.{_≡_}
+use mathlib.Core.List.{List, [], _∷_, _++_}
+use Prim.Native.Nat.{ℕ, _<_, _≤_, _^_}
+use lib.ListN.{length}
+use Rattle.rules.specs.Entries.{Kind, Lawful, Choices, Sizes, State, fresh, Call}
+use Rattle.rules.specs.Calls.{Outcome, cells-of, step}
+use Rattle.rules.specs.Runs.{Turn, Line, end, log}
+use Rattle.rules.specs.Ledger.{Ledger, empty, tickets-of, handing, entered, follow}
+use Rattle.rules.specs.Account.{Accounted, times, told-tickets, held-tickets, Right, All-free}
+
+module _ {Key Value : Type 0} (kind : Kind Key Value) (choices : Choices) (sizes : Sizes) where
+  -- The ledger l goes through the lines of a log. Before each and after all, the tickets told and handed out so far are
+  -- accounted for; at each, the answer and the departures are right by the ledger as it then stands.
+  unfoldable pub Through : Ledger Key Value → List ℕ → List ℕ → List (Line Key Value) → Type 0
+  Through l told handed [] = Accounted told handed (tickets-of (l .touch))
+  Through l told handed (x ∷ xs) =
+      Accounted told handed (tickets-of (l .touch))
+      × Right kind choices sizes l (x .call) (x .answer) (x .departures)
+      × Through (entered kind choices sizes l (x .call) (x .answer) (x .departures)) (told ++ told-tickets (x .departures)) (handed ++ handing (x .answer)) xs
+
+  -- A fresh cache with this log, and with this state at its end.
+  pub record Served (lines : List (Line Key Value)) (s : State Key Value) : Type 0 where
+    pub through : Through empty [] [] lines
+    -- the entries held bear the items' tickets in turn
+    pub in-turn : held-tickets s ≡ tickets-of (follow kind choices sizes empty lines .touch)
+
+  -- these lines are told, and this state is left, by some turns with cells that were free
+  pub record Ran (lines : List (Line Key Value)) (s : State Key Value) : Type 0 where
+    pub turns : List (Turn Key Value)
+    pub told : log kind choices sizes fresh turns ≡ lines
+    pub ends : end kind choices sizes fresh turns ≡ s
+    pub free : All-free kind choices sizes fresh turns
+
+  -- What one call has to promise: its outcome is the defined one, for some cell that is nobody else's afterwards.
+  pub record Does (s : State Key Value) (c : Call Key Value) (o : Outcome Key Value) : Type 0 where
+    pub free : ℕ
+    pub alone : times free (cells-of (o .state .touch)) ≤ 1
+    pub steps : step kind choices sizes free s c ≡ o
+
+-- every log of fewer than 2^32 calls on a fresh cache
+abbrev pub Served-stands : {Key Value : Type 0} → Kind Key Value → Type 0
+Served-stands {Key} {Value} kind =
+    (choices : Choices) (sizes : Sizes) (lines : List (Line Key Value)) (s : State Key Value)
+    → Ran kind choices sizes lines s → length lines < 2 ^ 32 → Served kind choices sizes lines s
