@@ -12,7 +12,7 @@ use Rattle.std.proofs.shelf.Lists.{take-map, length-map, map-append}
 use Rattle.std.specs.declared.option.Option.{Option}
 use Rattle.std.specs.declared.option.Option.the-variants.{Some, None}
 use Rattle.rules.specs.Fronts.{total, without, passing, freeing, first, among, ahead, looked, In, tally}
-use Rattle.rules.specs.Sketch.{Sketch}
+use Rattle.sketch.specs.Sketches.{Sketch}
 use Rattle.rules.specs.Entries.{Kind, Lawful, Choices, Entry, State, Cause, Departure}
 use Rattle.rules.specs.Entries.{LivedOut, IdledOut, Trimmed, Outvoted, StruckOut, SweptOut}
 use Rattle.rules.specs.Calls.{cells-of, leave, told, written, lived-out, idled-out, life-pass, idle-pass, trim-pass, after-life, after-idle, passed, passes-told}

@@ -12,7 +12,7 @@ use Rattle.std.proofs.shelf.Lists.{map-append}
 use Rattle.std.specs.declared.option.Option.{Option}
 use Rattle.std.specs.declared.option.Option.the-variants.{Some, None}
 use Rattle.rules.specs.Fronts.{without, first, among, ahead, looked, In, tally}
-use Rattle.rules.specs.Sketch.{Sketch}
+use Rattle.sketch.specs.Sketches.{Sketch}
 use Rattle.rules.specs.Entries.{Kind, Lawful, Choices, Entry, State, top}
 use Rattle.rules.specs.Calls.{cells-of, written, to-back, touched-at, rewritten, touch-entry, replace-entry, admit, newcomer, with-sketch, held}
 use Rattle.rules.specs.Rules.{kept, plus}

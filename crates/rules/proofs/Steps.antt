@@ -12,7 +12,7 @@ use Rattle.std.proofs.shelf.Lists.{length-map, append-nil}
 use Rattle.std.specs.declared.option.Option.{Option}
 use Rattle.std.specs.declared.option.Option.the-variants.{Some, None}
 use Rattle.rules.specs.Fronts.{looked, first, freeing, among, without, In, tally}
-use Rattle.rules.specs.Sketch.{Sketch}
+use Rattle.sketch.specs.Sketches.{Sketch}
 use Rattle.rules.specs.Entries.{Kind, Lawful, Choices, Sizes, Entry, State, Answer, Departure, Cause, top}
 use Rattle.rules.specs.Entries.{Hit, Miss, Yes, No, New, Replaced, TurnedAway, Struck, Absent, Swept, Refused}
 use Rattle.rules.specs.Entries.{Outvoted, StruckOut}

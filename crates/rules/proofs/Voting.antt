@@ -11,7 +11,7 @@ use Rattle.std.proofs.shelf.Tests.{cases-bool, eqb-true, eqb-false, eq-eqb, ne-
 use Rattle.std.specs.declared.option.Option.{Option}
 use Rattle.std.specs.declared.option.Option.the-variants.{Some, None}
 use Rattle.rules.specs.Fronts.{total, freeing, In}
-use Rattle.rules.specs.Sketch.{Sketch, frequency}
+use Rattle.sketch.specs.Sketches.{Sketch, frequency}
 use Rattle.rules.specs.Entries.{Kind, Choices, Sizes, Entry, State, Answer, Departure, Cause}
 use Rattle.rules.specs.Entries.{Hit, Miss, Yes, No, New, Replaced, TurnedAway, Struck, Absent, Swept, Refused}
 use Rattle.rules.specs.Entries.{Outvoted}

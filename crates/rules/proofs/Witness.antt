@@ -2,8 +2,12 @@
 use lib.Dec.{lit≤}
 use lib.Ieee.{size, span, climb}
 use Rattle.std.specs.declared.option.Option.the-variants.{Some, None}
-use Rattle.rules.specs.Words.{counter, raised, counters, packed, halved, oddOnes, odds}
-use Rattle.rules.specs.Sketch.{place, number, held, estimate, raiseAt, raiseAll, rises, halveAll, oddsAll, closed, frequency, doubled, leastPow2, capacity, opened, halvedSketch, aged, counted, incremented}
+use Rattle.sketch.specs.Counters.{counter, raised, counters, packed, halved, odd-ones, odds}
+use Rattle.sketch.specs.Powers.{doubled, least-power}
+use Rattle.sketch.specs.Tables.{place, number, held, estimate, raised-at, raised-all, rises, halved-all, odds-all}
+use Rattle.sketch.specs.Sketches.{closed, frequency, opens-over, made-for, opened, ensured, halved-sketch, reaches, counted, outcome, after, incremented}
+use Rattle.sketch.specs.Sketches as sketches
+use Rattle.kinds.specs.Tags.{tag-byte, tag-bytes, joined, folded-tag, filled-bytes}
 use Rattle.rules.specs.Near as near
 use Rattle.rules.specs.Entries.{fresh}
 use Rattle.rules.specs.Rules.{opening-size, opening}
@@ -14,5 +18,5 @@ use Rattle.rules.specs.Account.{All-free}
 use Rattle.rules.specs.Samples.{chosen, lent, gym-more}
 
 gym-free : All-free tags (chosen (Some 100) None None) lent fresh gym-more
-unfolding All-free size span climb counter raised counters packed halved oddOnes odds place number held estimate raiseAt raiseAll rises halveAll oddsAll closed frequency doubled leastPow2 capacity opened halvedSketch aged counted incremented near.opened fresh opening-size opening leave life-pass idle-pass trim-pass passed passes-told touch-entry replace-entry admit verdict step end log tags
+unfolding All-free size span climb counter raised counters packed halved odd-ones odds doubled least-power place number held estimate raised-at raised-all rises halved-all odds-all closed frequency opens-over made-for sketches.fresh opened ensured halved-sketch reaches counted outcome after incremented tag-byte tag-bytes joined folded-tag filled-bytes near.opened fresh opening-size opening leave life-pass idle-pass trim-pass passed passes-told touch-entry replace-entry admit verdict step end log tags
 gym-free = (lit≤ tt, (lit≤ tt, (lit≤ tt, (lit≤ tt, (lit≤ tt, (lit≤ tt, (lit≤ tt, tt)))))))

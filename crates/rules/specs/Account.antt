@@ -9,7 +9,7 @@ use lib.Dec.{eqb, leb}
 use Rattle.std.specs.declared.option.Option.{Option}
 use Rattle.std.specs.declared.option.Option.the-variants.{Some, None}
 use Rattle.rules.specs.Fronts.{In, tally}
-use Rattle.rules.specs.Sketch.{Sketch, frequency}
+use Rattle.sketch.specs.Sketches.{Sketch, frequency}
 use Rattle.rules.specs.Entries.{Kind, Lawful, Choices, Sizes, Entry, State, fresh, Call, Answer, Cause, Departure, latest}
 use Rattle.rules.specs.Entries.{Get, Contains, Insert, Invalidate, Sweep}
 use Rattle.rules.specs.Entries.{Hit, Miss, Yes, No, New, Replaced, TurnedAway, Struck, Absent, Swept, Refused}

@@ -7,8 +7,9 @@ use lib.Dec.{eqb, leb, ltb}
 use Rattle.std.specs.declared.option.Option.{Option}
 use Rattle.std.specs.declared.option.Option.the-variants.{Some, None}
 use Rattle.rules.specs.Fronts.{total, without, passing, freeing, first, among, looked}
-use Rattle.rules.specs.Sketch.{Sketch, frequency, incremented, opened}
-use Rattle.rules.specs.Rules.{over, plus, excess, fits, within, kept, batch, opening}
+use Rattle.sketch.specs.Sketches.{Sketch, frequency, incremented}
+use Rattle.times.specs.Expiry as times
+use Rattle.rules.specs.Rules.{plus, excess, fits, within, kept, batch, opening}
 use Rattle.rules.specs.Entries.{Kind, Choices, Sizes, Entry, State, Call, Answer, Cause, Departure, top, latest}
 use Rattle.rules.specs.Entries.{Get, Contains, Insert, Invalidate, Sweep}
 use Rattle.rules.specs.Entries.{Hit, Miss, Yes, No, New, Replaced, TurnedAway, Struck, Absent, Swept, Refused}
@@ -54,10 +55,10 @@ module _ {Key Value : Type 0} where
 
   module _ (choices : Choices) (now : ℕ) where
     abbrev pub lived-out : Entry Key Value → Bool
-    lived-out e = over (choices .life) (e .written) now
+    lived-out e = times.expired (choices .life) (e .written) now
 
     abbrev pub idled-out : Entry Key Value → Bool
-    idled-out e = over (choices .idle) (e .touched) now
+    idled-out e = times.expired (choices .idle) (e .touched) now
 
     abbrev pub expired : Entry Key Value → Bool
     expired e = lived-out e || idled-out e

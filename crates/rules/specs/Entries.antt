@@ -4,7 +4,7 @@ use mathlib.Core.Bool.{Bool, true, false}
 use mathlib.Core.List.{List, []}
 use Prim.Native.Nat.{ℕ, _^_, _-_}
 use Rattle.std.specs.declared.option.Option.{Option}
-use Rattle.rules.specs.Sketch.{Sketch, closed}
+use Rattle.sketch.specs.Sketches.{Sketch, closed}
 
 -- A kind of key and value: which keys are the same, a key's hash, what a key with a value weighs, and whether it weighs at all.
 pub record Kind (Key Value : Type 0) : Type 0 where

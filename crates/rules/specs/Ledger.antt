@@ -9,12 +9,13 @@ use lib.Dec.{eqb, leb}
 use Rattle.std.specs.declared.option.Option.{Option}
 use Rattle.std.specs.declared.option.Option.the-variants.{Some, None}
 use Rattle.rules.specs.Fronts.{total, without, passing, freeing, first, among, looked}
-use Rattle.rules.specs.Sketch.{Sketch, closed, frequency, incremented}
+use Rattle.sketch.specs.Sketches.{Sketch, closed, frequency, incremented}
 use Rattle.rules.specs.Entries.{Kind, Choices, Sizes, Call, Answer, Cause, Departure, latest}
 use Rattle.rules.specs.Entries.{Get, Contains, Insert, Invalidate, Sweep}
 use Rattle.rules.specs.Entries.{Hit, Miss, Yes, No, New, Replaced, TurnedAway, Struck, Absent, Swept, Refused}
 use Rattle.rules.specs.Entries.{LivedOut, IdledOut, Trimmed, Outvoted, StruckOut, SweptOut}
-use Rattle.rules.specs.Rules.{over, plus, excess, fits, within, kept, batch, opening}
+use Rattle.times.specs.Expiry as times
+use Rattle.rules.specs.Rules.{plus, excess, fits, within, kept, batch, opening}
 use Rattle.rules.specs.Runs.{Line}
 
 pub record Item (Key Value : Type 0) : Type 0 where
@@ -66,10 +67,10 @@ module _ {Key Value : Type 0} where
   module _ (choices : Choices) (now : ℕ) where
     -- an item's life, or its idle time, is over
     abbrev pub outlived : Item Key Value → Bool
-    outlived i = over (choices .life) (i .written) now
+    outlived i = times.expired (choices .life) (i .written) now
 
     abbrev pub idle-over : Item Key Value → Bool
-    idle-over i = over (choices .idle) (i .touched) now
+    idle-over i = times.expired (choices .idle) (i .touched) now
 
     abbrev pub lapsed : Item Key Value → Bool
     lapsed i = outlived i || idle-over i

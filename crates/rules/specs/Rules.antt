@@ -6,14 +6,9 @@ use lib.ListN.{length, take}
 use lib.Dec.{eqb, leb}
 use Rattle.std.specs.declared.option.Option.{Option}
 use Rattle.std.specs.declared.option.Option.the-variants.{Some, None}
-use Rattle.rules.specs.Sketch.{Sketch, opened}
+use Rattle.sketch.specs.Sketches.{Sketch, ensured}
 use Rattle.rules.specs.Near as near
 use Rattle.rules.specs.Entries.{top}
-
--- whether a time that began at an instant is over; a time not set never is
-abbrev pub over : Option ℕ → ℕ → ℕ → Bool
-over None since now = false
-over (Some d) since now = leb (since + d) now
 
 -- a sum that stops at the greatest number
 abbrev pub plus : ℕ → ℕ → ℕ
@@ -51,4 +46,4 @@ opening-size weighed count recorded c = cond weighed (cond (eqb c 0) 0 (near.ope
 unfoldable pub opening : Bool → ℕ → ℕ → ℕ → Option ℕ → Sketch → Sketch
 opening weighed words count recorded None k = k
 opening weighed words count recorded (Some c) k =
-    cond (eqb (length (k .words)) 0 && leb (c / 2) recorded) (opened words (opening-size weighed count recorded c)) k
+    cond (eqb (length (k .words)) 0 && leb (c / 2) recorded) (ensured words (opening-size weighed count recorded c) k) k

@@ -6,14 +6,16 @@ use Prim.Native.Nat.{ℕ, _-_}
 use lib.ListN.{length, take}
 use Rattle.std.specs.declared.option.Option.{Option}
 use Rattle.std.specs.declared.option.Option.the-variants.{Some, None}
-use Rattle.rules.specs.Sketch.{closed}
+use Rattle.sketch.specs.Sketches.{closed}
 use Rattle.rules.specs.Entries.{Choices, Sizes, State, fresh, Call, Answer, Cause, Departure, Entry}
 use Rattle.rules.specs.Entries.{Get, Contains, Insert, Invalidate, Sweep}
 use Rattle.rules.specs.Entries.{Hit, Miss, Yes, No, New, Replaced, TurnedAway, Struck, Absent, Swept, Refused}
 use Rattle.rules.specs.Entries.{LivedOut, IdledOut, Trimmed, Outvoted, StruckOut, SweptOut}
 use Rattle.rules.specs.Rules.{opening, opening-size}
 use Rattle.rules.specs.Runs.{Turn, Line, end, log}
-use Rattle.rules.specs.Hub.{Reading, Log, serials, tags}
+use Rattle.kinds.specs.declared.by_serial.Reading.{Reading}
+use Rattle.kinds.specs.declared.by_tag.Log.{Log}
+use Rattle.rules.specs.Hub.{serials, tags}
 
 -- an answer, with who left
 pub record Told (Value : Type 0) : Type 0 where

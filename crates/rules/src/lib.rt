@@ -5,7 +5,8 @@ ghost use Rattle.rules.specs.Served.{Served-stands};
 ghost use Rattle.rules.specs.Sums.{Sums-stand};
 use kinds::EntryKind;
 
-mod kinds;
+
+
 
 // The sample runs come out as the rules have them.
 pub fn samples_stand() -> u8

@@ -9,11 +9,11 @@ returns g c =
     let law = g .K·EntryKind·met in
     let kind = kind-of (k .alike) (k .hashed) (k .weighs) (k .weighed) in
     let lawful : Lawful kind = record {
-      reflexive = law .reflexive;
-      symmetric = law .symmetric;
-      transitive = law .transitive;
+      reflexive = law .refl;
+      symmetric = law .symm;
+      transitive = law .trans;
       same-hash = law .hashes;
       same-weight = law .weights;
-      weighs-one = law .one;
+      weighs-one = law .light;
     } in
     λ choices sizes ts few fr. account kind choices sizes lawful ts few fr

@@ -1,7 +1,11 @@
 use mathlib.Core.Path.{refl}
 use lib.Ieee.{size, span, climb}
-use Rattle.rules.specs.Words.{counter, raised, counters, packed, halved, oddOnes, odds}
-use Rattle.rules.specs.Sketch.{place, number, held, estimate, raiseAt, raiseAll, rises, halveAll, oddsAll, closed, frequency, doubled, leastPow2, capacity, opened, halvedSketch, aged, counted, incremented}
+use Rattle.sketch.specs.Counters.{counter, raised, counters, packed, halved, odd-ones, odds}
+use Rattle.sketch.specs.Powers.{doubled, least-power}
+use Rattle.sketch.specs.Tables.{place, number, held, estimate, raised-at, raised-all, rises, halved-all, odds-all}
+use Rattle.sketch.specs.Sketches.{closed, frequency, opens-over, made-for, opened, ensured, halved-sketch, reaches, counted, outcome, after, incremented}
+use Rattle.sketch.specs.Sketches as sketches
+use Rattle.kinds.specs.Tags.{tag-byte, tag-bytes, joined, folded-tag, filled-bytes}
 use Rattle.rules.specs.Near as near
 use Rattle.rules.specs.Entries.{fresh}
 use Rattle.rules.specs.Calls.{leave, life-pass, idle-pass, trim-pass, passed, passes-told, touch-entry, replace-entry, admit, verdict, step}
@@ -11,7 +15,7 @@ use Rattle.rules.specs.Hub.{serials, tags}
 use Rattle.rules.proofs.samples_stand.Needs as need
 
 pub returns : need.returns
-unfolding size span climb counter raised counters packed halved oddOnes odds place number held estimate raiseAt raiseAll rises halveAll oddsAll closed frequency doubled leastPow2 capacity opened halvedSketch aged counted incremented near.opened fresh opening-size opening leave life-pass idle-pass trim-pass passed passes-told touch-entry replace-entry admit verdict step end log serials tags
+unfolding size span climb counter raised counters packed halved odd-ones odds doubled least-power place number held estimate raised-at raised-all rises halved-all odds-all closed frequency opens-over made-for sketches.fresh opened ensured halved-sketch reaches counted outcome after incremented tag-byte tag-bytes joined folded-tag filled-bytes near.opened fresh opening-size opening leave life-pass idle-pass trim-pass passed passes-told touch-entry replace-entry admit verdict step end log serials tags
 returns c = record {
   rows-1-2 = refl;
   row-3 = refl;
