@@ -13,10 +13,14 @@ use Rattle.std.specs.declared.option.Option.{Option}
 use Rattle.std.specs.declared.option.Option.the-variants.{Some, None}
 use Rattle.rules.specs.Fronts.{total, without, passing, freeing, first, among, ahead, looked, In, tally}
 use Rattle.sketch.specs.Sketches.{Sketch}
-use Rattle.rules.specs.Entries.{Kind, Lawful, Choices, Entry, State, Cause, Departure}
-use Rattle.rules.specs.Entries.{LivedOut, IdledOut, Trimmed, Outvoted, StruckOut, SweptOut}
+use Rattle.rules.specs.declared.choices.Choices.{Choices}
+use Rattle.rules.specs.declared.departure.Cause.{Cause}
+use Rattle.rules.specs.declared.departure.Cause.the-variants.{LivedOut, IdledOut, Trimmed, Outvoted, StruckOut, SweptOut}
+use Rattle.rules.specs.declared.departure.Departure.{Departure}
+use Rattle.rules.specs.Kinds.{Kind, Lawful}
+use Rattle.rules.specs.Entries.{Entry, State}
+use Rattle.rules.specs.Limits.{excess, batch}
 use Rattle.rules.specs.Calls.{cells-of, leave, told, written, lived-out, idled-out, life-pass, idle-pass, trim-pass, after-life, after-idle, passed, passes-told}
-use Rattle.rules.specs.Rules.{excess, batch}
 use Rattle.rules.specs.Ledger.{Item, Ledger, tickets-of, telling, remove, in-write-order, outlived, idle-over, by-life, by-idle, by-trim, past-life, past-idle, clearing}
 use Rattle.rules.proofs.Fronts.{tally-without, tally-less, in-first, same-one, in-without, in-take, in-passing, in-freeing, in-looked, looked-without, map-without, map-passing, map-freeing, map-total, looked-again}
 

@@ -12,10 +12,17 @@ use Rattle.std.proofs.shelf.Lists.{length-append, append-nil}
 use Rattle.std.specs.declared.option.Option.{Option}
 use Rattle.std.specs.declared.option.Option.the-variants.{Some, None}
 use Rattle.rules.specs.Fronts.{In, tally}
-use Rattle.rules.specs.Entries.{Kind, Lawful, Choices, Sizes, Entry, State, Call, Answer, Departure, Cause, top, latest}
-use Rattle.rules.specs.Entries.{Get, Contains, Insert, Invalidate, Sweep}
-use Rattle.rules.specs.Entries.{Hit, Miss, Yes, No, New, Replaced, TurnedAway, Struck, Absent, Swept, Refused}
-use Rattle.rules.specs.Entries.{LivedOut, IdledOut, Trimmed, SweptOut}
+use Rattle.rules.specs.declared.choices.Choices.{Choices}
+use Rattle.rules.specs.declared.call.Call.{Call}
+use Rattle.rules.specs.declared.call.Call.the-variants.{Get, Contains, Insert, Invalidate, InvalidateAll}
+use Rattle.rules.specs.declared.answer.Answer.{Answer}
+use Rattle.rules.specs.declared.answer.Answer.the-variants.{Hit, Miss, Yes, No, New, Replaced, TurnedAway, Struck, Absent, Swept, Refused}
+use Rattle.rules.specs.declared.departure.Cause.{Cause}
+use Rattle.rules.specs.declared.departure.Cause.the-variants.{LivedOut, IdledOut, Trimmed, SweptOut}
+use Rattle.rules.specs.declared.departure.Departure.{Departure}
+use Rattle.rules.specs.Kinds.{Kind, Lawful}
+use Rattle.rules.specs.Entries.{Sizes, Entry, State}
+use Rattle.rules.specs.Limits.{top, latest}
 use Rattle.rules.specs.Calls.{life-pass, idle-pass, trim-pass, after-life, after-idle, Outcome, held, got, asked, struck, inserted, counted, told, cells-of, passed, passes-told, leave, step}
 use Rattle.rules.specs.Ledger.{is-outvoted, Item, Ledger, item-of, is-hit, takes-in, telling, counting, settled, clearing, outvoted, sweep-items, upon-get, upon-insert, upon-invalidate, entered}
 use Rattle.rules.specs.Account.{times, Running, Hits-right, Insert-right, Invalidate-right, Right}
@@ -136,7 +143,7 @@ module _ {Key Value : Type 0} (kind : Kind Key Value) (choices : Choices) (sizes
           | inr t ↦ rw t (record { right = rw t (record { answer = refl; nobody = refl }); follows = rw t; keeps = ok })
         ]
 
-    sweep-good : Good s Sweep (step kind choices sizes free s Sweep)
+    sweep-good : Good s InvalidateAll (step kind choices sizes free s InvalidateAll)
     unfolding step Right entered erase sweep-items
     sweep-good = record {
       right = (refl, sym (map-again (λ (i : Item Key Value). record { ticket = i .ticket; cause = SweptOut }) item (s .touch)));
@@ -157,4 +164,4 @@ module _ {Key Value : Type 0} (kind : Kind Key Value) (choices : Choices) (sizes
     good law room (Contains k now) fr = contains-good k now
     good law room (Insert k v now) fr = insert-good law room k v now fr
     good law room (Invalidate k now) fr = invalidate-good k now
-    good law room Sweep fr = sweep-good
+    good law room InvalidateAll fr = sweep-good

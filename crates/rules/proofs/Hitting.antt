@@ -10,8 +10,11 @@ use Rattle.std.proofs.shelf.Tests.{cases-bool, both-ways}
 use Rattle.std.specs.declared.option.Option.{Option}
 use Rattle.std.specs.declared.option.Option.the-variants.{Some, None}
 use Rattle.rules.specs.Fronts.{first, In, tally}
-use Rattle.rules.specs.Entries.{Kind, Choices, Sizes, Entry, State, Answer}
-use Rattle.rules.specs.Entries.{Hit, Miss, Yes, No, New, Replaced, TurnedAway, Struck, Absent, Swept, Refused}
+use Rattle.rules.specs.declared.choices.Choices.{Choices}
+use Rattle.rules.specs.declared.answer.Answer.{Answer}
+use Rattle.rules.specs.declared.answer.Answer.the-variants.{Hit, Miss, Yes, No, New, Replaced, TurnedAway, Struck, Absent, Swept, Refused}
+use Rattle.rules.specs.Kinds.{Kind}
+use Rattle.rules.specs.Entries.{Sizes, Entry, State}
 use Rattle.rules.specs.Ledger.{Item, Ledger, lapsed, item-of}
 use Rattle.rules.specs.Account.{Running, Hits-right}
 use Rattle.rules.proofs.Fronts.{some-one, in-tally, first-in, first-none, in-first}

@@ -12,12 +12,18 @@ use Rattle.std.proofs.shelf.Lists.{map-append}
 use Rattle.std.specs.declared.option.Option.{Option}
 use Rattle.std.specs.declared.option.Option.the-variants.{Some, None}
 use Rattle.rules.specs.Fronts.{first, without, passing, freeing, among, ahead, looked, In, tally}
-use Rattle.rules.specs.Entries.{Kind, Lawful, Choices, Sizes, Entry, State, Call, Answer, Departure, Cause, top, latest}
-use Rattle.rules.specs.Entries.{Get, Contains, Insert, Invalidate, Sweep}
-use Rattle.rules.specs.Entries.{Hit, Miss, Yes, No, New, Replaced, TurnedAway, Struck, Absent, Swept, Refused}
-use Rattle.rules.specs.Entries.{LivedOut, IdledOut, Trimmed, Outvoted, StruckOut, SweptOut}
+use Rattle.rules.specs.declared.choices.Choices.{Choices}
+use Rattle.rules.specs.declared.call.Call.{Call}
+use Rattle.rules.specs.declared.call.Call.the-variants.{Get, Contains, Insert, Invalidate, InvalidateAll}
+use Rattle.rules.specs.declared.answer.Answer.{Answer}
+use Rattle.rules.specs.declared.answer.Answer.the-variants.{Hit, Miss, Yes, No, New, Replaced, TurnedAway, Struck, Absent, Swept, Refused}
+use Rattle.rules.specs.declared.departure.Cause.{Cause}
+use Rattle.rules.specs.declared.departure.Cause.the-variants.{LivedOut, IdledOut, Trimmed, Outvoted, StruckOut, SweptOut}
+use Rattle.rules.specs.declared.departure.Departure.{Departure}
+use Rattle.rules.specs.Kinds.{Kind, Lawful}
+use Rattle.rules.specs.Entries.{Sizes, Entry, State}
+use Rattle.rules.specs.Limits.{top, latest, plus, excess}
 use Rattle.rules.specs.Calls.{Outcome, with-sketch, held, verdict, Verdict, Fits, Outvotes, Loses, none, got, asked, struck, inserted, came, counted, expired, to-back, touched-at, rewritten, touch-entry, replace-entry, admit, leave, told, written, cells-of, joined, opened-sketch, newcomer, full, lived-out, idled-out, life-pass, idle-pass, trim-pass, after-life, after-idle, passed, passes-told, step}
-use Rattle.rules.specs.Rules.{plus, excess}
 use Rattle.rules.specs.Ledger.{handing}
 use Rattle.rules.specs.Account.{times, told-tickets}
 use Rattle.rules.proofs.Fronts.{tally-append, tally-without, tally-mono, in-tally, tally-in, first-in, same-one, in-without, in-freeing, in-looked}

@@ -6,7 +6,11 @@ use native.Mathlib.Omega.{arith}
 use lib.ListN.{length}
 use lib.Dec.{eqb}
 use Rattle.rules.specs.Fronts.{tally}
-use Rattle.rules.specs.Entries.{Kind, Lawful, Choices, Sizes, State, fresh, top, Call}
+use Rattle.rules.specs.declared.choices.Choices.{Choices}
+use Rattle.rules.specs.declared.call.Call.{Call}
+use Rattle.rules.specs.Kinds.{Kind, Lawful}
+use Rattle.rules.specs.Entries.{Sizes, State, fresh}
+use Rattle.rules.specs.Limits.{top}
 use Rattle.rules.specs.Calls.{Outcome, cells-of}
 use Rattle.rules.specs.Runs.{Turn, Line, after, line, end, log}
 use Rattle.rules.specs.Ledger.{Ledger, empty, tickets-of, handing, entered, follow}

@@ -10,8 +10,12 @@ use lib.Dec.{eqb}
 use Rattle.std.proofs.shelf.Tests.{cases-bool}
 use Rattle.std.proofs.shelf.Lists.{map-append, length-append, append-nil}
 use Rattle.rules.specs.Fronts.{total, without, among, looked, In}
-use Rattle.rules.specs.Entries.{Kind, Choices, Entry, State, Cause, Departure}
-use Rattle.rules.specs.Entries.{LivedOut, IdledOut, Trimmed, Outvoted, StruckOut, SweptOut}
+use Rattle.rules.specs.declared.choices.Choices.{Choices}
+use Rattle.rules.specs.declared.departure.Cause.{Cause}
+use Rattle.rules.specs.declared.departure.Cause.the-variants.{LivedOut, IdledOut, Trimmed, Outvoted, StruckOut, SweptOut}
+use Rattle.rules.specs.declared.departure.Departure.{Departure}
+use Rattle.rules.specs.Kinds.{Kind}
+use Rattle.rules.specs.Entries.{Entry, State}
 use Rattle.rules.specs.Calls.{leave, told, life-pass, idle-pass, trim-pass, after-life, after-idle, passed, passes-told, cells-of}
 use Rattle.rules.specs.Ledger.{Item, Ledger, tickets-of, weight-of, remove, by-pass, told-by, items-with, settled}
 use Rattle.rules.proofs.Fronts.{in-append, in-without, looked-again}

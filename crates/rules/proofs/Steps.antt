@@ -13,9 +13,16 @@ use Rattle.std.specs.declared.option.Option.{Option}
 use Rattle.std.specs.declared.option.Option.the-variants.{Some, None}
 use Rattle.rules.specs.Fronts.{looked, first, freeing, among, without, In, tally}
 use Rattle.sketch.specs.Sketches.{Sketch}
-use Rattle.rules.specs.Entries.{Kind, Lawful, Choices, Sizes, Entry, State, Answer, Departure, Cause, top}
-use Rattle.rules.specs.Entries.{Hit, Miss, Yes, No, New, Replaced, TurnedAway, Struck, Absent, Swept, Refused}
-use Rattle.rules.specs.Entries.{Outvoted, StruckOut}
+use Rattle.rules.specs.declared.choices.Choices.{Choices}
+use Rattle.rules.specs.declared.answer.Answer.{Answer}
+use Rattle.rules.specs.declared.answer.Answer.the-variants.{Hit, Miss, Yes, No, New, Replaced, TurnedAway, Struck, Absent, Swept, Refused}
+use Rattle.rules.specs.declared.refusal.Refusal.the-variants.{BeyondRange, NoCell}
+use Rattle.rules.specs.declared.departure.Cause.{Cause}
+use Rattle.rules.specs.declared.departure.Cause.the-variants.{Outvoted, StruckOut}
+use Rattle.rules.specs.declared.departure.Departure.{Departure}
+use Rattle.rules.specs.Kinds.{Kind, Lawful}
+use Rattle.rules.specs.Entries.{Sizes, Entry, State}
+use Rattle.rules.specs.Limits.{top}
 use Rattle.rules.specs.Calls.{Outcome, with-sketch, held, verdict, Verdict, Fits, Outvotes, Loses, none, got, asked, struck, inserted, came, counted, expired, touch-entry, replace-entry, admit, leave, told, cells-of, joined, opened-sketch, newcomer, full}
 use Rattle.rules.specs.Ledger.{by-pass, told-by, outvoted, Item, Ledger, lapsed, item-of, fitting, is-hit, takes-in, telling, counting, touch-item, replace-item, add-item, remove, opened-after, newly, upon-get, upon-insert, upon-invalidate}
 use Rattle.rules.specs.Account.{times, Running, Hits-right, Insert-right, Invalidate-right}
@@ -208,7 +215,7 @@ module _ {Key Value : Type 0} (kind : Kind Key Value) (choices : Choices) (sizes
                 rest = [];
                 tells = sym (append-nil ds);
                 quiet = refl;
-                right = by-none (λ o. Insert-right kind choices sizes (erase p) k v o (Refused 7) []) (right-full kind choices sizes (erase p) k v t (fullness u));
+                right = by-none (λ o. Insert-right kind choices sizes (erase p) k v o (Refused NoCell) []) (right-full kind choices sizes (erase p) k v t (fullness u));
                 follows = sym (upon false []);
                 keeps = ok;
               })
@@ -273,7 +280,7 @@ module _ {Key Value : Type 0} (kind : Kind Key Value) (choices : Choices) (sizes
                     rest = [];
                     tells = sym (append-nil ds);
                     quiet = refl;
-                    right = by-none (λ o. Insert-right kind choices sizes (erase p) k v o (Refused 7) []) (right-wins-full kind choices sizes (erase p) k v t w nil (fullness (us .1)));
+                    right = by-none (λ o. Insert-right kind choices sizes (erase p) k v o (Refused NoCell) []) (right-wins-full kind choices sizes (erase p) k v t w nil (fullness (us .1)));
                     follows = sym (upon false []);
                     keeps = ok;
                   })

@@ -11,14 +11,20 @@ use Rattle.std.proofs.shelf.Tests.{cases-bool, cases-lt, both-ways, eqb-true, e
 use Rattle.std.specs.declared.option.Option.{Option}
 use Rattle.std.specs.declared.option.Option.the-variants.{Some, None}
 use Rattle.rules.specs.Fronts.{total, first, without, passing, freeing, among, looked, In, tally}
-use Rattle.rules.specs.Entries.{Kind, Lawful, Choices, Sizes, Entry, State, fresh, Call, top, latest, Departure}
-use Rattle.rules.specs.Entries.{Get, Contains, Insert, Invalidate, Sweep, Refused}
+use Rattle.rules.specs.declared.choices.Choices.{Choices}
+use Rattle.rules.specs.declared.call.Call.{Call}
+use Rattle.rules.specs.declared.call.Call.the-variants.{Get, Contains, Insert, Invalidate, InvalidateAll}
+use Rattle.rules.specs.declared.answer.Answer.the-variants.{Refused}
+use Rattle.rules.specs.declared.refusal.Refusal.the-variants.{BeyondRange, NoCell}
+use Rattle.rules.specs.declared.departure.Departure.{Departure}
+use Rattle.rules.specs.Kinds.{Kind, Lawful}
+use Rattle.rules.specs.Entries.{Sizes, Entry, State, fresh}
+use Rattle.rules.specs.Limits.{top, latest, plus, excess}
 use Rattle.rules.specs.Calls.{Outcome, held, verdict, Verdict, Fits, Outvotes, Loses, none, got, asked, struck, inserted, came, counted, expired, to-back, touched-at, rewritten, touch-entry, replace-entry, admit, leave, written, cells-of, joined, newcomer, full, lived-out, idled-out, life-pass, idle-pass, trim-pass, after-life, after-idle, passed, passes-told, timely, outcome, step}
-use Rattle.rules.specs.Rules.{plus, excess}
 use Rattle.rules.specs.Runs.{Turn, after, line, end}
 use Rattle.rules.specs.Ledger.{Ledger, empty, handing, fitting}
 use Rattle.rules.specs.Account.{times, told-tickets, Free, All-free, state-after}
-use Rattle.rules.specs.Sums.{Adds-up, Sums-stand}
+use Rattle.rules.specs.Sums.{Adds-up, Sums-of}
 use Rattle.rules.proofs.Fronts.{tally-append, tally-without, in-tally, first-in, same-one, in-without, in-append, in-freeing, in-looked}
 use Rattle.rules.proofs.Erasing.{Kept, From, in-stays, leave-kept, life-from, idle-from, trim-from, k1, k2, passed-kept, erase}
 use Rattle.rules.proofs.Voting.{verdict-is, run-of, wins}
@@ -342,7 +348,7 @@ module _ {Key Value : Type 0} where
               go (Some e) h = replace-sums p ok up (choices .life) v (kind .weighs k v) now e (here k e h) (narrow k v)
 
       timely-sums : (now : ℕ) (s : State Key Value) (o : Outcome Key Value) → Adds-up sizes s → Adds-up sizes (o .state) → Adds-up sizes (timely now s o .state)
-      timely-sums now s o up h = elim (leb now latest) as (λ b. Adds-up sizes (cond b o (outcome s (Refused 6) []) .state)) [ true ↦ h | false ↦ up ]
+      timely-sums now s o up h = elim (leb now latest) as (λ b. Adds-up sizes (cond b o (outcome s (Refused BeyondRange) []) .state)) [ true ↦ h | false ↦ up ]
 
       step-sums : (s : State Key Value) → Kept kind s → Adds-up sizes s → (c : Call Key Value) → Adds-up sizes (step kind choices sizes free s c .state)
       unfolding step
@@ -350,7 +356,7 @@ module _ {Key Value : Type 0} where
       step-sums s ok up (Contains k now) = timely-sums now s _ up (asked-sums (passed choices now s) (passed-kept kind choices now s ok) (passed-sums choices now s ok up) (passes-told choices now s) now (held kind k (passed choices now s)))
       step-sums s ok up (Insert k v now) = timely-sums now s _ up (inserted-sums (passed choices now s) (passed-kept kind choices now s ok) (passed-sums choices now s ok up) (passes-told choices now s) k v now)
       step-sums s ok up (Invalidate k now) = timely-sums now s _ up (struck-sums (passed choices now s) (passed-kept kind choices now s ok) (passed-sums choices now s ok up) (passes-told choices now s) k)
-      step-sums s ok up Sweep = record { recorded = refl; count = refl; room = omega arith; light = λ e i. absurd i }
+      step-sums s ok up InvalidateAll = record { recorded = refl; count = refl; room = omega arith; light = λ e i. absurd i }
 
 -- ---- every list of calls
 
@@ -369,6 +375,6 @@ module _ {Key Value : Type 0} (kind : Kind Key Value) (choices : Choices) (sizes
   unfolding fresh
   fresh-sums = record { recorded = refl; count = refl; room = omega arith; light = λ e i. absurd i }
 
-pub sums-stand : (Key Value : Type 0) → Sums-stand Key Value
-sums-stand Key Value kind choices sizes law narrow small ts few fr =
-    run-sums kind choices sizes law narrow small ts fresh empty (λ n. 0) (λ n. 0) (fresh-stands kind choices sizes) (fresh-sums kind choices sizes law narrow small) (omega (arith, fresh-next kind choices sizes)) fr
+pub sums-of : {Key Value : Type 0} (kind : Kind Key Value) → Lawful kind → Sums-of kind
+sums-of kind law choices sizes small ts few fr =
+    run-sums kind choices sizes law (law .narrow) small ts fresh empty (λ n. 0) (λ n. 0) (fresh-stands kind choices sizes) (fresh-sums kind choices sizes law (law .narrow) small) (omega (arith, fresh-next kind choices sizes)) fr

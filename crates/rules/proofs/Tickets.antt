@@ -11,12 +11,19 @@ use Rattle.std.proofs.shelf.Tests.{cases-bool}
 use Rattle.std.specs.declared.option.Option.{Option}
 use Rattle.std.specs.declared.option.Option.the-variants.{Some, None}
 use Rattle.rules.specs.Fronts.{first, freeing, In, tally}
-use Rattle.rules.specs.Entries.{Kind, Choices, Sizes, Entry, State, Call, Answer, Departure, Cause, latest}
-use Rattle.rules.specs.Entries.{Get, Contains, Insert, Invalidate, Sweep}
-use Rattle.rules.specs.Entries.{Hit, Miss, Yes, No, New, Replaced, TurnedAway, Struck, Absent, Swept, Refused}
-use Rattle.rules.specs.Entries.{Outvoted, StruckOut, SweptOut}
+use Rattle.rules.specs.declared.choices.Choices.{Choices}
+use Rattle.rules.specs.declared.call.Call.{Call}
+use Rattle.rules.specs.declared.call.Call.the-variants.{Get, Contains, Insert, Invalidate, InvalidateAll}
+use Rattle.rules.specs.declared.answer.Answer.{Answer}
+use Rattle.rules.specs.declared.answer.Answer.the-variants.{Hit, Miss, Yes, No, New, Replaced, TurnedAway, Struck, Absent, Swept, Refused}
+use Rattle.rules.specs.declared.refusal.Refusal.the-variants.{BeyondRange, NoCell}
+use Rattle.rules.specs.declared.departure.Cause.{Cause}
+use Rattle.rules.specs.declared.departure.Cause.the-variants.{Outvoted, StruckOut, SweptOut}
+use Rattle.rules.specs.declared.departure.Departure.{Departure}
+use Rattle.rules.specs.Kinds.{Kind}
+use Rattle.rules.specs.Entries.{Sizes, Entry, State}
+use Rattle.rules.specs.Limits.{latest, plus}
 use Rattle.rules.specs.Calls.{Outcome, held, verdict, Verdict, Fits, Outvotes, Loses, none, got, asked, struck, inserted, came, counted, expired, touched-at, rewritten, touch-entry, replace-entry, admit, leave, told, joined, newcomer, full, passed, passes-told, step}
-use Rattle.rules.specs.Rules.{plus}
 use Rattle.rules.specs.Ledger.{handing, fitting}
 use Rattle.rules.specs.Account.{times, told-tickets}
 use Rattle.rules.proofs.Fronts.{tally-append, first-in, in-freeing}
@@ -165,11 +172,11 @@ module _ {Key Value : Type 0} (kind : Kind Key Value) (choices : Choices) (sizes
       before = λ n. omega (arith, h .before n, passes-moves kind choices now s ok n);
     }
 
-    late : Moved s (record { state = s; answer = Refused 6; departures = [] })
+    late : Moved s (record { state = s; answer = Refused BeyondRange; departures = [] })
     late = record { counts = λ n. omega arith; numbers = inl (refl, refl); before = λ n. omega arith }
 
-    timely-moved : (now : ℕ) (o : Outcome Key Value) → Moved s o → Moved s (cond (leb now latest) o (record { state = s; answer = Refused 6; departures = [] }))
-    timely-moved now o h = elim (leb now latest) as (λ b. Moved s (cond b o (record { state = s; answer = Refused 6; departures = [] }))) [ true ↦ h | false ↦ late ]
+    timely-moved : (now : ℕ) (o : Outcome Key Value) → Moved s o → Moved s (cond (leb now latest) o (record { state = s; answer = Refused BeyondRange; departures = [] }))
+    timely-moved now o h = elim (leb now latest) as (λ b. Moved s (cond b o (record { state = s; answer = Refused BeyondRange; departures = [] }))) [ true ↦ h | false ↦ late ]
 
     pub moved : (c : Call Key Value) → Moved s (step kind choices sizes free s c)
     unfolding step
@@ -177,4 +184,4 @@ module _ {Key Value : Type 0} (kind : Kind Key Value) (choices : Choices) (sizes
     moved (Contains k now) = timely-moved now _ (past now _ (asked-shift (passed choices now s) (passed-kept kind choices now s ok) (passes-told choices now s) k now))
     moved (Insert k v now) = timely-moved now _ (past now _ (inserted-shift (passed choices now s) (passed-kept kind choices now s ok) (passes-told choices now s) k v now))
     moved (Invalidate k now) = timely-moved now _ (past now _ (struck-shift (passed choices now s) (passed-kept kind choices now s ok) (passes-told choices now s) k))
-    moved Sweep = record { counts = λ n. omega (arith, told-times n SweptOut (s .touch)); numbers = inl (refl, refl); before = λ n. omega (arith, told-times n SweptOut (s .touch)) }
+    moved InvalidateAll = record { counts = λ n. omega (arith, told-times n SweptOut (s .touch)); numbers = inl (refl, refl); before = λ n. omega (arith, told-times n SweptOut (s .touch)) }

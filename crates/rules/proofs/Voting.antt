@@ -12,11 +12,17 @@ use Rattle.std.specs.declared.option.Option.{Option}
 use Rattle.std.specs.declared.option.Option.the-variants.{Some, None}
 use Rattle.rules.specs.Fronts.{total, freeing, In}
 use Rattle.sketch.specs.Sketches.{Sketch, frequency}
-use Rattle.rules.specs.Entries.{Kind, Choices, Sizes, Entry, State, Answer, Departure, Cause}
-use Rattle.rules.specs.Entries.{Hit, Miss, Yes, No, New, Replaced, TurnedAway, Struck, Absent, Swept, Refused}
-use Rattle.rules.specs.Entries.{Outvoted}
+use Rattle.rules.specs.declared.choices.Choices.{Choices}
+use Rattle.rules.specs.declared.answer.Answer.{Answer}
+use Rattle.rules.specs.declared.answer.Answer.the-variants.{Hit, Miss, Yes, No, New, Replaced, TurnedAway, Struck, Absent, Swept, Refused}
+use Rattle.rules.specs.declared.refusal.Refusal.the-variants.{BeyondRange, NoCell}
+use Rattle.rules.specs.declared.departure.Cause.{Cause}
+use Rattle.rules.specs.declared.departure.Cause.the-variants.{Outvoted}
+use Rattle.rules.specs.declared.departure.Departure.{Departure}
+use Rattle.rules.specs.Kinds.{Kind}
+use Rattle.rules.specs.Entries.{Sizes, Entry, State}
+use Rattle.rules.specs.Limits.{fits, within}
 use Rattle.rules.specs.Calls.{popularity, vote, verdict, Verdict, Fits, Outvotes, Loses}
-use Rattle.rules.specs.Rules.{fits, within}
 use Rattle.rules.specs.Ledger.{Item, Ledger, weight-of, popularity-of, fitting, takes-in, telling}
 use Rattle.rules.specs.Account.{Run, Shortest, Within, No-cell, Newcomer-right}
 use Rattle.rules.proofs.Fronts.{in-freeing, map-freeing, map-total}
@@ -132,7 +138,7 @@ module _ {Key Value : Type 0} (kind : Kind Key Value) (choices : Choices) (sizes
       turned-away = λ e. absurd (both-ways true e refl);
     }
 
-    pub right-full : fitting kind choices l k v ≡ true → sizes .cells ≤ length (l .touch) → Newcomer-right kind choices sizes l k v (Refused 7) []
+    pub right-full : fitting kind choices l k v ≡ true → sizes .cells ≤ length (l .touch) → Newcomer-right kind choices sizes l k v (Refused NoCell) []
     right-full f c = record {
       refused = λ n. refl;
       refused-only = λ e. (record { taken = c; due = inl f }, refl);
@@ -157,7 +163,7 @@ module _ {Key Value : Type 0} (kind : Kind Key Value) (choices : Choices) (sizes
           turned-away = λ e. absurd (both-ways true e refl);
         }
 
-    pub right-wins-full : fitting kind choices l k v ≡ false → wins ≡ true → leaving ≡ [] → sizes .cells ≤ length (l .touch) → Newcomer-right kind choices sizes l k v (Refused 7) []
+    pub right-wins-full : fitting kind choices l k v ≡ false → wins ≡ true → leaving ≡ [] → sizes .cells ≤ length (l .touch) → Newcomer-right kind choices sizes l k v (Refused NoCell) []
     right-wins-full f w n c =
         let s = wins-shortest w in
         record {

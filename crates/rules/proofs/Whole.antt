@@ -9,11 +9,15 @@ use lib.ListN.{length}
 use lib.Dec.{eqb}
 use Rattle.std.proofs.shelf.Tests.{cases-bool, both-ways, eqb-true, ne-eqb}
 use Rattle.rules.specs.Fronts.{In, tally}
-use Rattle.rules.specs.Entries.{Kind, Lawful, Choices, Sizes, Entry, State, fresh, Departure, top}
+use Rattle.rules.specs.declared.choices.Choices.{Choices}
+use Rattle.rules.specs.declared.departure.Departure.{Departure}
+use Rattle.rules.specs.Kinds.{Kind, Lawful}
+use Rattle.rules.specs.Entries.{Sizes, Entry, State, fresh}
+use Rattle.rules.specs.Limits.{top}
 use Rattle.rules.specs.Calls.{step, cells-of}
 use Rattle.rules.specs.Runs.{Turn, Line, after, line, end, log}
 use Rattle.rules.specs.Ledger.{Item, Ledger, empty, tickets-of, handing, entered, follow}
-use Rattle.rules.specs.Account.{times, told-tickets, all-told, all-handed, Right, Free, All-free, held-tickets, Accounted, Account, Account-stands, state-after, log-of, ledger-after}
+use Rattle.rules.specs.Account.{times, told-tickets, all-told, all-handed, Right, Free, All-free, held-tickets, Accounted, Account, state-after, log-of, ledger-after}
 use Rattle.rules.proofs.Fronts.{tally-append}
 use Rattle.rules.proofs.Erasing.{item, erase, Kept, map-again}
 use Rattle.rules.proofs.Hitting.{tally-map}
@@ -154,6 +158,3 @@ module _ {Key Value : Type 0} (kind : Kind Key Value) (choices : Choices) (sizes
             let e : times n (held-tickets s) ≡ times n (tickets-of (ledger-after kind choices sizes ts .touch)) = ap (times n) (in-turn-of s (ledger-after kind choices sizes ts) (st .same)) in
             omega (arith, m .before n, bears-held s n, e);
       }
-
-pub account-stands : (Key Value : Type 0) → Account-stands Key Value
-account-stands Key Value kind choices sizes law ts few fr = account kind choices sizes law ts few fr

@@ -10,12 +10,19 @@ use Rattle.std.specs.declared.option.Option.{Option}
 use Rattle.std.specs.declared.option.Option.the-variants.{Some, None}
 use Rattle.rules.specs.Fronts.{In, tally}
 use Rattle.sketch.specs.Sketches.{Sketch, frequency}
-use Rattle.rules.specs.Entries.{Kind, Lawful, Choices, Sizes, Entry, State, fresh, Call, Answer, Cause, Departure, latest}
-use Rattle.rules.specs.Entries.{Get, Contains, Insert, Invalidate, Sweep}
-use Rattle.rules.specs.Entries.{Hit, Miss, Yes, No, New, Replaced, TurnedAway, Struck, Absent, Swept, Refused}
-use Rattle.rules.specs.Entries.{LivedOut, IdledOut, Trimmed, Outvoted, StruckOut, SweptOut}
+use Rattle.rules.specs.declared.choices.Choices.{Choices}
+use Rattle.rules.specs.declared.call.Call.{Call}
+use Rattle.rules.specs.declared.call.Call.the-variants.{Get, Contains, Insert, Invalidate, InvalidateAll}
+use Rattle.rules.specs.declared.answer.Answer.{Answer}
+use Rattle.rules.specs.declared.answer.Answer.the-variants.{Hit, Miss, Yes, No, New, Replaced, TurnedAway, Struck, Absent, Swept, Refused}
+use Rattle.rules.specs.declared.refusal.Refusal.the-variants.{BeyondRange, NoCell}
+use Rattle.rules.specs.declared.departure.Cause.{Cause}
+use Rattle.rules.specs.declared.departure.Cause.the-variants.{LivedOut, IdledOut, Trimmed, Outvoted, StruckOut, SweptOut}
+use Rattle.rules.specs.declared.departure.Departure.{Departure}
+use Rattle.rules.specs.Kinds.{Kind, Lawful}
+use Rattle.rules.specs.Entries.{Sizes, Entry, State, fresh}
+use Rattle.rules.specs.Limits.{latest, within}
 use Rattle.rules.specs.Calls.{cells-of}
-use Rattle.rules.specs.Rules.{within}
 use Rattle.rules.specs.Runs.{Turn, Line, after, line, end, log}
 use Rattle.rules.specs.Ledger.{Item, Ledger, empty, tickets-of, weight-of, telling, lapsed, clearing, settled, handing, takes-in, item-of, popularity-of, fitting, follow}
 
@@ -89,12 +96,12 @@ module _ {Key Value : Type 0} (kind : Kind Key Value) (choices : Choices) (sizes
   -- A newcomer: rest is what the call tells beyond its passes.
   pub record Newcomer-right (l : Ledger Key Value) (k : Key) (v : Value) (a : Answer Value) (rest : List Departure) : Type 0 where
     -- refused exactly when due in with nobody leaving and no cell free, and nobody leaves
-    pub refused : No-cell l k v → a ≡ Refused 7
-    pub refused-only : a ≡ Refused 7 → No-cell l k v × (rest ≡ [])
+    pub refused : No-cell l k v → a ≡ Refused NoCell
+    pub refused-only : a ≡ Refused NoCell → No-cell l k v × (rest ≡ [])
     -- one that fits gets in, and nobody leaves for it
-    pub fits-in : fitting kind choices l k v ≡ true → a ≢ Refused 7 → (a ≡ New (l .next)) × (rest ≡ [])
+    pub fits-in : fitting kind choices l k v ≡ true → a ≢ Refused NoCell → (a ≡ New (l .next)) × (rest ≡ [])
     -- one that doesn't fit gets in exactly when it is within capacity and some run frees its weight with less popularity
-    pub votes-in : fitting kind choices l k v ≡ false → a ≢ Refused 7 → Within k v → (n : ℕ) → Run kind l k v n → a ≡ New (l .next)
+    pub votes-in : fitting kind choices l k v ≡ false → a ≢ Refused NoCell → Within k v → (n : ℕ) → Run kind l k v n → a ≡ New (l .next)
     -- then the shortest such run leaves, front first
     pub in-by-vote :
         fitting kind choices l k v ≡ false → takes-in a ≡ true
@@ -102,13 +109,13 @@ module _ {Key Value : Type 0} (kind : Kind Key Value) (choices : Choices) (sizes
     -- a newcomer taken in has the next ticket
     pub next-ticket : takes-in a ≡ true → a ≡ New (l .next)
     -- another is turned away, and nobody leaves
-    pub turned-away : takes-in a ≡ false → a ≢ Refused 7 → (a ≡ TurnedAway) × (rest ≡ [])
+    pub turned-away : takes-in a ≡ false → a ≢ Refused NoCell → (a ≡ TurnedAway) × (rest ≡ [])
 
 -- ---- a line, as the ledger checks it
 
 -- an instant too late: refused, and nobody leaves
 pub record Late {Value : Type 0} (a : Answer Value) (ds : List Departure) : Type 0 where
-  pub answer : a ≡ Refused 6
+  pub answer : a ≡ Refused BeyondRange
   pub nobody : ds ≡ []
 
 abbrev pub Timely : {Value : Type 0} → ℕ → Answer Value → List Departure → Type 0 → Type 0
@@ -148,7 +155,7 @@ module _ {Key Value : Type 0} (kind : Kind Key Value) (choices : Choices) (sizes
       ((rest : List Departure) × Tells choices l now ds rest × Insert-right (settled ds l) k v (item-of kind k (settled ds l)) a rest)
   Right l (Invalidate k now) a ds =
       Timely now a ds ((rest : List Departure) × Tells choices l now ds rest × Invalidate-right (item-of kind k (settled ds l)) a rest)
-  Right l Sweep a ds = (a ≡ Swept) × (ds ≡ telling SweptOut (l .touch))
+  Right l InvalidateAll a ds = (a ≡ Swept) × (ds ≡ telling SweptOut (l .touch))
 
   -- ---- the theorem
 
@@ -185,17 +192,8 @@ module _ {Key Value : Type 0} (kind : Kind Key Value) (choices : Choices) (sizes
         (t : Turn Key Value) (n : ℕ)
         → times n (told-tickets (line kind choices sizes (state-after ts) t .departures)) ≤ times n (tickets-of (ledger-after ts .touch))
 
--- every list of fewer than 2^32 calls on a fresh cache, for every lawful kind and whatever the clock does
-abbrev pub Account-stands : (Key Value : Type 0) → Type 0
-Account-stands Key Value =
-    (kind : Kind Key Value) (choices : Choices) (sizes : Sizes) → Lawful kind
-    → (ts : List (Turn Key Value)) → length ts < 2 ^ 32 → All-free kind choices sizes fresh ts
-    → Account kind choices sizes ts
-
--- the same of a kind that is given by its parts, as a bound gives it
-abbrev pub kind-of : {Key Value : Type 0} → (Key → Key → Bool) → (Key → ℕ) → (Key → Value → ℕ) → Bool → Kind Key Value
-kind-of alike hashed weighs weighed = record { alike = alike; hashed = hashed; weighs = weighs; weighed = weighed }
-
+-- every list of fewer than 2^32 calls on a fresh cache, whatever the clock does
 abbrev pub Account-of : {Key Value : Type 0} → Kind Key Value → Type 0
 Account-of {Key} {Value} kind =
-    (choices : Choices) (sizes : Sizes) (ts : List (Turn Key Value)) → length ts < 2 ^ 32 → All-free kind choices sizes fresh ts → Account kind choices sizes ts
+    (choices : Choices) (sizes : Sizes) (ts : List (Turn Key Value)) → length ts < 2 ^ 32 → All-free kind choices sizes fresh ts
+    → Account kind choices sizes ts

@@ -9,11 +9,19 @@ use Rattle.std.specs.declared.option.Option.the-variants.{Some, None}
 use Rattle.rules.specs.Fronts.{total, without, passing, freeing, first, among, looked}
 use Rattle.sketch.specs.Sketches.{Sketch, frequency, incremented}
 use Rattle.times.specs.Expiry as times
-use Rattle.rules.specs.Rules.{plus, excess, fits, within, kept, batch, opening}
-use Rattle.rules.specs.Entries.{Kind, Choices, Sizes, Entry, State, Call, Answer, Cause, Departure, top, latest}
-use Rattle.rules.specs.Entries.{Get, Contains, Insert, Invalidate, Sweep}
-use Rattle.rules.specs.Entries.{Hit, Miss, Yes, No, New, Replaced, TurnedAway, Struck, Absent, Swept, Refused}
-use Rattle.rules.specs.Entries.{LivedOut, IdledOut, Trimmed, Outvoted, StruckOut, SweptOut}
+use Rattle.rules.specs.declared.choices.Choices.{Choices}
+use Rattle.rules.specs.declared.call.Call.{Call}
+use Rattle.rules.specs.declared.call.Call.the-variants.{Get, Contains, Insert, Invalidate, InvalidateAll}
+use Rattle.rules.specs.declared.answer.Answer.{Answer}
+use Rattle.rules.specs.declared.answer.Answer.the-variants.{Hit, Miss, Yes, No, New, Replaced, TurnedAway, Struck, Absent, Swept, Refused}
+use Rattle.rules.specs.declared.refusal.Refusal.the-variants.{BeyondRange, NoCell}
+use Rattle.rules.specs.declared.departure.Cause.{Cause}
+use Rattle.rules.specs.declared.departure.Cause.the-variants.{LivedOut, IdledOut, Trimmed, Outvoted, StruckOut, SweptOut}
+use Rattle.rules.specs.declared.departure.Departure.{Departure}
+use Rattle.rules.specs.Kinds.{Kind}
+use Rattle.rules.specs.Entries.{Sizes, Entry, State}
+use Rattle.rules.specs.Limits.{plus, excess, fits, within, kept, batch, top, latest}
+use Rattle.rules.specs.Opening.{opening}
 
 -- what becomes of a newcomer: it fits, or gets in by a run that leaves for it, or is turned away
 pub data Verdict (A : Type 0) : Type 0 where
@@ -214,7 +222,7 @@ module _ {Key Value : Type 0} where
 
   -- an instant too late is refused, and changes nothing
   abbrev pub timely : ℕ → State Key Value → Outcome Key Value → Outcome Key Value
-  timely now s o = cond (leb now latest) o (outcome s (Refused 6) [])
+  timely now s o = cond (leb now latest) o (outcome s (Refused BeyondRange) [])
 
   -- no cell is free
   abbrev pub full : Sizes → State Key Value → Bool
@@ -235,9 +243,9 @@ module _ {Key Value : Type 0} (kind : Kind Key Value) (choices : Choices) (sizes
   -- a newcomer, by its verdict
   abbrev pub came : Key → Value → ℕ → Verdict (Entry Key Value) → State Key Value → List Departure → Outcome Key Value
   came k v now Fits s ds =
-      cond (full sizes s) (outcome s (Refused 7) ds) (outcome (opened-sketch kind choices sizes (joined k v now s)) (New (s .next)) ds)
+      cond (full sizes s) (outcome s (Refused NoCell) ds) (outcome (opened-sketch kind choices sizes (joined k v now s)) (New (s .next)) ds)
   came k v now (Outvotes run) s ds =
-      cond (none run && full sizes s) (outcome s (Refused 7) ds) (outcome (joined k v now (leave run s)) (New (s .next)) (ds ++ told Outvoted run))
+      cond (none run && full sizes s) (outcome s (Refused NoCell) ds) (outcome (joined k v now (leave run s)) (New (s .next)) (ds ++ told Outvoted run))
   came k v now Loses s ds = outcome s TurnedAway ds
 
   abbrev pub inserted : Key → Value → ℕ → Option (Entry Key Value) → State Key Value → List Departure → Outcome Key Value
@@ -252,5 +260,5 @@ module _ {Key Value : Type 0} (kind : Kind Key Value) (choices : Choices) (sizes
   step s (Contains k now) = timely now s (asked choices now (held kind k (passed choices now s)) (passed choices now s) (passes-told choices now s))
   step s (Insert k v now) = timely now s (inserted k v now (held kind k (passed choices now s)) (passed choices now s) (passes-told choices now s))
   step s (Invalidate k now) = timely now s (struck (held kind k (passed choices now s)) (passed choices now s) (passes-told choices now s))
-  step s Sweep =
+  step s InvalidateAll =
       outcome (record { touch = []; write = []; next = s .next; recorded = 0; count = 0; sketch = s .sketch }) Swept (told SweptOut (s .touch))

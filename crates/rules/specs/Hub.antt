@@ -6,7 +6,7 @@ use Rattle.kinds.specs.declared.by_serial.Reading.{Reading}
 use Rattle.kinds.specs.declared.by_tag.Log.{Log}
 use Rattle.kinds.specs.Tags.{folded-tag, same-tag}
 use Rattle.kinds.specs.Weights.{tag-weight}
-use Rattle.rules.specs.Entries.{Kind}
+use Rattle.rules.specs.Kinds.{Kind}
 
 -- a serial is its own hash, and nothing is weighed
 unfoldable pub serials : Kind ℕ Reading

@@ -10,12 +10,19 @@ use Rattle.std.specs.declared.option.Option.{Option}
 use Rattle.std.specs.declared.option.Option.the-variants.{Some, None}
 use Rattle.rules.specs.Fronts.{total, without, passing, freeing, first, among, looked}
 use Rattle.sketch.specs.Sketches.{Sketch, closed, frequency, incremented}
-use Rattle.rules.specs.Entries.{Kind, Choices, Sizes, Call, Answer, Cause, Departure, latest}
-use Rattle.rules.specs.Entries.{Get, Contains, Insert, Invalidate, Sweep}
-use Rattle.rules.specs.Entries.{Hit, Miss, Yes, No, New, Replaced, TurnedAway, Struck, Absent, Swept, Refused}
-use Rattle.rules.specs.Entries.{LivedOut, IdledOut, Trimmed, Outvoted, StruckOut, SweptOut}
+use Rattle.rules.specs.declared.choices.Choices.{Choices}
+use Rattle.rules.specs.declared.call.Call.{Call}
+use Rattle.rules.specs.declared.call.Call.the-variants.{Get, Contains, Insert, Invalidate, InvalidateAll}
+use Rattle.rules.specs.declared.answer.Answer.{Answer}
+use Rattle.rules.specs.declared.answer.Answer.the-variants.{Hit, Miss, Yes, No, New, Replaced, TurnedAway, Struck, Absent, Swept, Refused}
+use Rattle.rules.specs.declared.departure.Cause.{Cause}
+use Rattle.rules.specs.declared.departure.Cause.the-variants.{LivedOut, IdledOut, Trimmed, Outvoted, StruckOut, SweptOut}
+use Rattle.rules.specs.declared.departure.Departure.{Departure}
+use Rattle.rules.specs.Kinds.{Kind}
+use Rattle.rules.specs.Entries.{Sizes}
+use Rattle.rules.specs.Limits.{latest, plus, excess, fits, within, kept, batch}
+use Rattle.rules.specs.Opening.{opening}
 use Rattle.times.specs.Expiry as times
-use Rattle.rules.specs.Rules.{plus, excess, fits, within, kept, batch, opening}
 use Rattle.rules.specs.Runs.{Line}
 
 pub record Item (Key Value : Type 0) : Type 0 where
@@ -263,7 +270,7 @@ module _ {Key Value : Type 0} (kind : Kind Key Value) (choices : Choices) (sizes
   entered l (Insert k v now) a ds =
       cond (leb now latest) (upon-insert k v now (takes-in a) (outvoted ds) (item-of kind k (settled ds l)) (settled ds l)) l
   entered l (Invalidate k now) a ds = cond (leb now latest) (upon-invalidate (item-of kind k (settled ds l)) (settled ds l)) l
-  entered l Sweep a ds = sweep-items l
+  entered l InvalidateAll a ds = sweep-items l
 
   -- the ledger after the lines of a log
   unfoldable pub follow : Ledger Key Value → List (Line Key Value) → Ledger Key Value

@@ -1,7 +1,12 @@
 -- A list of calls, and what is told of it.
 use mathlib.Core.List.{List, [], _∷_}
 use Prim.Native.Nat.{ℕ}
-use Rattle.rules.specs.Entries.{Kind, Choices, Sizes, State, Call, Answer, Departure}
+use Rattle.rules.specs.declared.choices.Choices.{Choices}
+use Rattle.rules.specs.declared.call.Call.{Call}
+use Rattle.rules.specs.declared.answer.Answer.{Answer}
+use Rattle.rules.specs.declared.departure.Departure.{Departure}
+use Rattle.rules.specs.Kinds.{Kind}
+use Rattle.rules.specs.Entries.{Sizes, State}
 use Rattle.rules.specs.Calls.{step}
 
 -- a call, with the free cell that the cache would choose at it

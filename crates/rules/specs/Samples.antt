@@ -7,11 +7,16 @@ use lib.ListN.{length, take}
 use Rattle.std.specs.declared.option.Option.{Option}
 use Rattle.std.specs.declared.option.Option.the-variants.{Some, None}
 use Rattle.sketch.specs.Sketches.{closed}
-use Rattle.rules.specs.Entries.{Choices, Sizes, State, fresh, Call, Answer, Cause, Departure, Entry}
-use Rattle.rules.specs.Entries.{Get, Contains, Insert, Invalidate, Sweep}
-use Rattle.rules.specs.Entries.{Hit, Miss, Yes, No, New, Replaced, TurnedAway, Struck, Absent, Swept, Refused}
-use Rattle.rules.specs.Entries.{LivedOut, IdledOut, Trimmed, Outvoted, StruckOut, SweptOut}
-use Rattle.rules.specs.Rules.{opening, opening-size}
+use Rattle.rules.specs.declared.choices.Choices.{Choices}
+use Rattle.rules.specs.declared.call.Call.{Call}
+use Rattle.rules.specs.declared.call.Call.the-variants.{Get, Contains, Insert, Invalidate, InvalidateAll}
+use Rattle.rules.specs.declared.answer.Answer.{Answer}
+use Rattle.rules.specs.declared.answer.Answer.the-variants.{Hit, Miss, Yes, No, New, Replaced, TurnedAway, Struck, Absent, Swept, Refused}
+use Rattle.rules.specs.declared.departure.Cause.{Cause}
+use Rattle.rules.specs.declared.departure.Cause.the-variants.{LivedOut, IdledOut, Trimmed, Outvoted, StruckOut, SweptOut}
+use Rattle.rules.specs.declared.departure.Departure.{Departure}
+use Rattle.rules.specs.Entries.{Sizes, State, fresh, Entry}
+use Rattle.rules.specs.Opening.{opening, opening-size}
 use Rattle.rules.specs.Runs.{Turn, Line, end, log}
 use Rattle.kinds.specs.declared.by_serial.Reading.{Reading}
 use Rattle.kinds.specs.declared.by_tag.Log.{Log}

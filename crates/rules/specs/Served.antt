@@ -3,7 +3,10 @@ use mathlib.Core.Path.{_≡_}
 use mathlib.Core.List.{List, [], _∷_, _++_}
 use Prim.Native.Nat.{ℕ, _<_, _≤_, _^_}
 use lib.ListN.{length}
-use Rattle.rules.specs.Entries.{Kind, Lawful, Choices, Sizes, State, fresh, Call}
+use Rattle.rules.specs.declared.choices.Choices.{Choices}
+use Rattle.rules.specs.declared.call.Call.{Call}
+use Rattle.rules.specs.Kinds.{Kind, Lawful}
+use Rattle.rules.specs.Entries.{Sizes, State, fresh}
 use Rattle.rules.specs.Calls.{Outcome, cells-of, step}
 use Rattle.rules.specs.Runs.{Turn, Line, end, log}
 use Rattle.rules.specs.Ledger.{Ledger, empty, tickets-of, handing, entered, follow}
@@ -39,7 +42,7 @@ module _ {Key Value : Type 0} (kind : Kind Key Value) (choices : Choices) (sizes
     pub steps : step kind choices sizes free s c ≡ o
 
 -- every log of fewer than 2^32 calls on a fresh cache
-abbrev pub Served-stands : {Key Value : Type 0} → Kind Key Value → Type 0
-Served-stands {Key} {Value} kind =
+abbrev pub Served-of : {Key Value : Type 0} → Kind Key Value → Type 0
+Served-of {Key} {Value} kind =
     (choices : Choices) (sizes : Sizes) (lines : List (Line Key Value)) (s : State Key Value)
     → Ran kind choices sizes lines s → length lines < 2 ^ 32 → Served kind choices sizes lines s

@@ -4,7 +4,9 @@ use mathlib.Core.List.{List}
 use Prim.Native.Nat.{ℕ, _≤_, _<_, _^_}
 use lib.ListN.{length}
 use Rattle.rules.specs.Fronts.{total, In}
-use Rattle.rules.specs.Entries.{Kind, Lawful, Choices, Sizes, Entry, State, fresh}
+use Rattle.rules.specs.declared.choices.Choices.{Choices}
+use Rattle.rules.specs.Kinds.{Kind, Lawful}
+use Rattle.rules.specs.Entries.{Sizes, Entry, State, fresh}
 use Rattle.rules.specs.Runs.{Turn}
 use Rattle.rules.specs.Account.{All-free, state-after}
 
@@ -15,8 +17,9 @@ pub record Adds-up {Key Value : Type 0} (sizes : Sizes) (s : State Key Value) : 
   pub room : length (s .touch) ≤ sizes .cells
   pub light : (e : Entry Key Value) → In e (s .touch) → e .weight < 2 ^ 32
 
-abbrev pub Sums-stand : (Key Value : Type 0) → Type 0
-Sums-stand Key Value =
-    (kind : Kind Key Value) (choices : Choices) (sizes : Sizes) → Lawful kind → ((k : Key) (v : Value) → kind .weighs k v < 2 ^ 32) → sizes .cells ≤ 4096
+-- after every list of fewer than 2^32 calls on a fresh cache
+abbrev pub Sums-of : {Key Value : Type 0} → Kind Key Value → Type 0
+Sums-of {Key} {Value} kind =
+    (choices : Choices) (sizes : Sizes) → sizes .cells ≤ 4096
     → (ts : List (Turn Key Value)) → length ts < 2 ^ 32 → All-free kind choices sizes fresh ts
     → Adds-up sizes (state-after kind choices sizes ts)

@@ -1,7 +1,6 @@
-use Rattle.rules.specs.Entries.{Lawful}
-use Rattle.rules.specs.Account.{kind-of}
-use Rattle.rules.proofs.Served.{served}
-use Rattle.rules.proofs.served_stands.Needs as need
+use Rattle.rules.specs.Kinds.{Lawful, kind-of}
+use Rattle.rules.proofs.Sums.{sums-of}
+use Rattle.rules.proofs.theorems.sums_of.Needs as need
 
 pub returns : need.returns
 returns g c =
@@ -15,5 +14,6 @@ returns g c =
       same-hash = law .hashes;
       same-weight = law .weights;
       weighs-one = law .light;
+      narrow = law .bounded;
     } in
-    λ choices sizes lines s r few. served kind choices sizes lawful lines s r few
+    sums-of kind lawful

@@ -1,14 +1,19 @@
--- The rules that know neither entries nor items: times, sums, fitting, and the opening of the sketch.
-use mathlib.Core.Bool.{Bool, true, false, cond, _&&_}
+-- Where numbers stop, what fits, and how many leave at once.
+use mathlib.Core.Bool.{Bool, true}
 use mathlib.Core.List.{List, []}
-use Prim.Native.Nat.{ℕ, _+_, _-_, _/_, min}
-use lib.ListN.{length, take}
-use lib.Dec.{eqb, leb}
+use Prim.Native.Nat.{ℕ, _+_, _-_, _^_, min}
+use lib.ListN.{take}
+use lib.Dec.{leb}
 use Rattle.std.specs.declared.option.Option.{Option}
 use Rattle.std.specs.declared.option.Option.the-variants.{Some, None}
-use Rattle.sketch.specs.Sketches.{Sketch, ensured}
-use Rattle.rules.specs.Near as near
-use Rattle.rules.specs.Entries.{top}
+
+-- the greatest number, at which recorded weight and tickets stop
+abbrev pub top : ℕ
+top = 2 ^ 64 - 1
+
+-- the latest instant
+abbrev pub latest : ℕ
+latest = 2 ^ 62
 
 -- a sum that stops at the greatest number
 abbrev pub plus : ℕ → ℕ → ℕ
@@ -37,13 +42,3 @@ kept (Some d) ns = ns
 -- each pass removes at most so many
 abbrev pub batch : {A : Type 0} → List A → List A
 batch xs = take 100 xs
-
--- the size for which a sketch opens
-unfoldable pub opening-size : Bool → ℕ → ℕ → ℕ → ℕ
-opening-size weighed count recorded c = cond weighed (cond (eqb c 0) 0 (near.opened count recorded c)) c
-
--- a closed sketch opens when the recorded weight has reached half of the capacity
-unfoldable pub opening : Bool → ℕ → ℕ → ℕ → Option ℕ → Sketch → Sketch
-opening weighed words count recorded None k = k
-opening weighed words count recorded (Some c) k =
-    cond (eqb (length (k .words)) 0 && leb (c / 2) recorded) (ensured words (opening-size weighed count recorded c) k) k

@@ -1,7 +1,6 @@
-use Rattle.rules.specs.Entries.{Lawful}
-use Rattle.rules.specs.Account.{kind-of}
-use Rattle.rules.proofs.Whole.{account}
-use Rattle.rules.proofs.account_of.Needs as need
+use Rattle.rules.specs.Kinds.{Lawful, kind-of}
+use Rattle.rules.proofs.Served.{served}
+use Rattle.rules.proofs.theorems.served_of.Needs as need
 
 pub returns : need.returns
 returns g c =
@@ -15,5 +14,6 @@ returns g c =
       same-hash = law .hashes;
       same-weight = law .weights;
       weighs-one = law .light;
+      narrow = law .bounded;
     } in
-    λ choices sizes ts few fr. account kind choices sizes lawful ts few fr
+    λ choices sizes lines s r few. served kind choices sizes lawful lines s r few

@@ -6,16 +6,16 @@ use Rattle.sketch.specs.Tables.{place, number, held, estimate, raised-at, raise
 use Rattle.sketch.specs.Sketches.{closed, frequency, opens-over, made-for, opened, ensured, halved-sketch, reaches, counted, outcome, after, incremented}
 use Rattle.sketch.specs.Sketches as sketches
 use Rattle.kinds.specs.Tags.{tag-byte, tag-bytes, joined, folded-tag, filled-bytes}
-use Rattle.rules.specs.Near as near
+use Rattle.rules.specs.Rounding.{weighed-size}
 use Rattle.rules.specs.Entries.{fresh}
+use Rattle.rules.specs.Opening.{opening-size, opens, opening}
 use Rattle.rules.specs.Calls.{leave, life-pass, idle-pass, trim-pass, passed, passes-told, touch-entry, replace-entry, admit, verdict, step}
-use Rattle.rules.specs.Rules.{opening-size, opening}
 use Rattle.rules.specs.Runs.{end, log}
 use Rattle.rules.specs.Hub.{serials, tags}
-use Rattle.rules.proofs.samples_stand.Needs as need
+use Rattle.rules.proofs.theorems.samples_stand.Needs as need
 
 pub returns : need.returns
-unfolding size span climb counter raised counters packed halved odd-ones odds doubled least-power place number held estimate raised-at raised-all rises halved-all odds-all closed frequency opens-over made-for sketches.fresh opened ensured halved-sketch reaches counted outcome after incremented tag-byte tag-bytes joined folded-tag filled-bytes near.opened fresh opening-size opening leave life-pass idle-pass trim-pass passed passes-told touch-entry replace-entry admit verdict step end log serials tags
+unfolding size span climb counter raised counters packed halved odd-ones odds doubled least-power place number held estimate raised-at raised-all rises halved-all odds-all closed frequency opens-over made-for sketches.fresh opened ensured halved-sketch reaches counted outcome after incremented tag-byte tag-bytes joined folded-tag filled-bytes weighed-size opens fresh opening-size opening leave life-pass idle-pass trim-pass passed passes-told touch-entry replace-entry admit verdict step end log serials tags
 returns c = record {
   rows-1-2 = refl;
   row-3 = refl;

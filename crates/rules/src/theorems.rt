@@ -1,0 +1,36 @@
+//! The theorems over whole lists of calls, each on the contract of a function of its own.
+ghost use Rattle.rules.specs.Account.{Account-of};
+ghost use Rattle.rules.specs.Kinds.{kind-of};
+ghost use Rattle.rules.specs.Samples.{Samples};
+ghost use Rattle.rules.specs.Served.{Served-of};
+ghost use Rattle.rules.specs.Sums.{Sums-of};
+use kinds::EntryKind;
+
+/// The sample runs come out as the rules have them.
+pub fn samples_stand() -> u8
+    ensures { λ _. ⌜ Samples ⌝ }
+{
+    0
+}
+
+/// Over every list of calls each entry is accounted for, and each verdict and each hit is right.
+pub fn account_of<K: EntryKind>() -> u8
+    ensures { λ _. ⌜ Account-of (kind-of alike hashed weighs weighed) ⌝ }
+{
+    0
+}
+
+/// The same said of the log alone: the ledger goes through it, line by line.
+pub fn served_of<K: EntryKind>() -> u8
+    ensures { λ _. ⌜ Served-of (kind-of alike hashed weighs weighed) ⌝ }
+{
+    0
+}
+
+/// After every list of calls the recorded weight is the sum of the weights held, and the entry count
+/// is how many are held.
+pub fn sums_of<K: EntryKind>() -> u8
+    ensures { λ _. ⌜ Sums-of (kind-of alike hashed weighs weighed) ⌝ }
+{
+    0
+}
