@@ -15,7 +15,7 @@ use Rattle.rules.specs.Fronts.{total, passing, freeing, In}
 use Rattle.rules.specs.declared.choices.Choices.{Choices}
 use Rattle.rules.specs.Entries.{Entry, State}
 use Rattle.rules.specs.Limits.{excess, batch}
-use Rattle.rules.specs.Calls.{written, lived-out, idled-out, life-pass, idle-pass, trim-pass}
+use Rattle.rules.specs.Passes.{written, lived-out, idled-out, life-pass, idle-pass, trim-pass}
 use Rattle.rules.specs.Laws.{Clears, Trims, Passes-clear, Least-run}
 use Rattle.rules.proofs.Fronts.{in-take}
 use Rattle.rules.proofs.Voting.{freeing-take, freeing-enough, freeing-least, total-mono, total-take}

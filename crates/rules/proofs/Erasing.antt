@@ -20,8 +20,8 @@ use Rattle.rules.specs.declared.departure.Departure.{Departure}
 use Rattle.rules.specs.Kinds.{Kind, Lawful}
 use Rattle.rules.specs.Entries.{Entry, State}
 use Rattle.rules.specs.Limits.{excess, batch}
-use Rattle.rules.specs.Calls.{cells-of, leave, told, written, lived-out, idled-out, life-pass, idle-pass, trim-pass, after-life, after-idle, passed, passes-told}
-use Rattle.rules.specs.Ledger.{Item, Ledger, tickets-of, telling, remove, in-write-order, outlived, idle-over, by-life, by-idle, by-trim, past-life, past-idle, clearing}
+use Rattle.rules.specs.Passes.{cells-of, leave, told, written, lived-out, idled-out, life-pass, idle-pass, trim-pass, after-life, after-idle, passed, passes-told}
+use Rattle.rules.specs.Items.{Item, Ledger, tickets-of, telling, remove, in-write-order, outlived, idle-over, by-life, by-idle, by-trim, past-life, past-idle, clearing}
 use Rattle.rules.proofs.Fronts.{tally-without, tally-less, in-first, same-one, in-without, in-take, in-passing, in-freeing, in-looked, looked-without, map-without, map-passing, map-freeing, map-total, looked-again}
 
 pub map-again : {A B C : Type 0} (g : B → C) (f : A → B) (xs : List A) → map g (map f xs) ≡ map (λ a. g (f a)) xs

@@ -17,7 +17,7 @@ use Rattle.rules.specs.declared.choices.Choices.{Choices}
 use Rattle.rules.specs.Entries.{Entry}
 use Rattle.rules.specs.Limits.{top, plus}
 use Rattle.rules.specs.Opening.{opening-size, opens, opening}
-use Rattle.rules.specs.Calls.{lived-out, idled-out, expired}
+use Rattle.rules.specs.Passes.{lived-out, idled-out, expired}
 use Rattle.rules.specs.Laws.{Expires, Fits-exactly, Sum-stops, Opens}
 
 -- a time that still runs is not over

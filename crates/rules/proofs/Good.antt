@@ -23,8 +23,10 @@ use Rattle.rules.specs.declared.departure.Departure.{Departure}
 use Rattle.rules.specs.Kinds.{Kind, Lawful}
 use Rattle.rules.specs.Entries.{Sizes, Entry, State}
 use Rattle.rules.specs.Limits.{top, latest}
-use Rattle.rules.specs.Calls.{life-pass, idle-pass, trim-pass, after-life, after-idle, Outcome, held, got, asked, struck, inserted, counted, told, cells-of, passed, passes-told, leave, step}
-use Rattle.rules.specs.Ledger.{is-outvoted, Item, Ledger, item-of, is-hit, takes-in, telling, counting, settled, clearing, outvoted, sweep-items, upon-get, upon-insert, upon-invalidate, entered}
+use Rattle.rules.specs.Passes.{life-pass, idle-pass, trim-pass, after-life, after-idle, told, cells-of, passed, passes-told, leave}
+use Rattle.rules.specs.Calls.{Outcome, held, got, asked, struck, inserted, counted, step}
+use Rattle.rules.specs.Items.{Item, Ledger, telling, clearing, sweep-items}
+use Rattle.rules.specs.Ledger.{is-outvoted, item-of, is-hit, takes-in, counting, settled, outvoted, upon-get, upon-insert, upon-invalidate, entered}
 use Rattle.rules.specs.Account.{times, Running, Hits-right, Insert-right, Invalidate-right, Right}
 use Rattle.rules.proofs.Erasing.{item, erase, Kept, map-again, passed-kept, told-same}
 use Rattle.rules.proofs.Settling.{told-by-append, told-no, settled-erase}

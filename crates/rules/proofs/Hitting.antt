@@ -15,7 +15,8 @@ use Rattle.rules.specs.declared.answer.Answer.{Answer}
 use Rattle.rules.specs.declared.answer.Answer.the-variants.{Hit, Miss, Yes, No, New, Replaced, TurnedAway, Struck, Absent, Swept, Refused}
 use Rattle.rules.specs.Kinds.{Kind}
 use Rattle.rules.specs.Entries.{Sizes, Entry, State}
-use Rattle.rules.specs.Ledger.{Item, Ledger, lapsed, item-of}
+use Rattle.rules.specs.Items.{Item, Ledger, lapsed}
+use Rattle.rules.specs.Ledger.{item-of}
 use Rattle.rules.specs.Account.{Running, Hits-right}
 use Rattle.rules.proofs.Fronts.{some-one, in-tally, first-in, first-none, in-first}
 

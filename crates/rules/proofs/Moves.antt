@@ -23,7 +23,9 @@ use Rattle.rules.specs.declared.departure.Departure.{Departure}
 use Rattle.rules.specs.Kinds.{Kind, Lawful}
 use Rattle.rules.specs.Entries.{Sizes, Entry, State}
 use Rattle.rules.specs.Limits.{top, latest, plus, excess}
-use Rattle.rules.specs.Calls.{Outcome, with-sketch, held, verdict, Verdict, Fits, Outvotes, Loses, none, got, asked, struck, inserted, came, counted, expired, to-back, touched-at, rewritten, touch-entry, replace-entry, admit, leave, told, written, cells-of, joined, opened-sketch, newcomer, full, lived-out, idled-out, life-pass, idle-pass, trim-pass, after-life, after-idle, passed, passes-told, step}
+use Rattle.rules.specs.Passes.{expired, leave, told, written, cells-of, lived-out, idled-out, life-pass, idle-pass, trim-pass, after-life, after-idle, passed, passes-told}
+use Rattle.rules.specs.Votes.{verdict, Verdict, Fits, Outvotes, Loses, none}
+use Rattle.rules.specs.Calls.{Outcome, with-sketch, held, got, asked, struck, inserted, came, counted, to-back, touched-at, rewritten, touch-entry, replace-entry, admit, joined, opened-sketch, newcomer, full, step}
 use Rattle.rules.specs.Ledger.{handing}
 use Rattle.rules.specs.Account.{times, told-tickets}
 use Rattle.rules.proofs.Fronts.{tally-append, tally-without, tally-mono, in-tally, tally-in, first-in, same-one, in-without, in-freeing, in-looked}

@@ -17,8 +17,9 @@ use Rattle.rules.specs.declared.choices.Choices.{Choices}
 use Rattle.rules.specs.Kinds.{Kind, Lawful}
 use Rattle.rules.specs.Entries.{Entry, State}
 use Rattle.rules.specs.Limits.{top, kept, plus}
-use Rattle.rules.specs.Calls.{cells-of, written, to-back, touched-at, rewritten, touch-entry, replace-entry, admit, newcomer, with-sketch, held}
-use Rattle.rules.specs.Ledger.{Item, Ledger, last, touch-item, replace-item, add-item, sketching}
+use Rattle.rules.specs.Passes.{cells-of, written}
+use Rattle.rules.specs.Calls.{to-back, touched-at, rewritten, touch-entry, replace-entry, admit, newcomer, with-sketch, held}
+use Rattle.rules.specs.Items.{Item, Ledger, last, touch-item, replace-item, add-item, sketching}
 use Rattle.rules.proofs.Fronts.{none-some, some-one, tally-append, tally-without, tally-less, tally-mono, in-tally, tally-in, first-in, first-none, in-first, in-without, in-append, in-looked, seen, map-without}
 use Rattle.rules.proofs.Erasing.{item, ticket-of, erase, ledger-same, Kept, same-ids, in-stays, among-without}
 

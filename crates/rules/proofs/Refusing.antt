@@ -20,7 +20,9 @@ use Rattle.rules.specs.Numbers.{refusal-number}
 use Rattle.rules.specs.Kinds.{Kind}
 use Rattle.rules.specs.Entries.{Sizes, Entry, State}
 use Rattle.rules.specs.Limits.{latest}
-use Rattle.rules.specs.Calls.{Outcome, outcome, timely, Verdict, Fits, Outvotes, Loses, none, held, verdict, got, asked, struck, inserted, came, counted, full, expired, passed, passes-told, step}
+use Rattle.rules.specs.Passes.{expired, passed, passes-told}
+use Rattle.rules.specs.Votes.{Verdict, Fits, Outvotes, Loses, none, verdict}
+use Rattle.rules.specs.Calls.{Outcome, outcome, timely, held, got, asked, struck, inserted, came, counted, full, step}
 use Rattle.rules.specs.Laws.{instant-of, Late}
 use Rattle.rules.proofs.Fronts.{none-some, some-one}
 

@@ -11,9 +11,11 @@ use Rattle.rules.specs.declared.call.Call.{Call}
 use Rattle.rules.specs.Kinds.{Kind, Lawful}
 use Rattle.rules.specs.Entries.{Sizes, State, fresh}
 use Rattle.rules.specs.Limits.{top}
-use Rattle.rules.specs.Calls.{Outcome, cells-of}
+use Rattle.rules.specs.Passes.{cells-of}
+use Rattle.rules.specs.Calls.{Outcome}
 use Rattle.rules.specs.Runs.{Turn, Line, after, line, end, log}
-use Rattle.rules.specs.Ledger.{Ledger, empty, tickets-of, handing, entered, follow}
+use Rattle.rules.specs.Items.{Ledger, empty, tickets-of}
+use Rattle.rules.specs.Ledger.{handing, entered, follow}
 use Rattle.rules.specs.Account.{Accounted, times, told-tickets, held-tickets, Right, Free, All-free, Account}
 use Rattle.rules.specs.Served.{Through, Served, Ran, Does}
 use Rattle.rules.proofs.Fronts.{tally-append}

@@ -16,8 +16,9 @@ use Rattle.rules.specs.declared.departure.Cause.the-variants.{LivedOut, IdledO
 use Rattle.rules.specs.declared.departure.Departure.{Departure}
 use Rattle.rules.specs.Kinds.{Kind}
 use Rattle.rules.specs.Entries.{Entry, State}
-use Rattle.rules.specs.Calls.{leave, told, life-pass, idle-pass, trim-pass, after-life, after-idle, passed, passes-told, cells-of}
-use Rattle.rules.specs.Ledger.{Item, Ledger, tickets-of, weight-of, remove, by-pass, told-by, items-with, settled}
+use Rattle.rules.specs.Passes.{leave, told, life-pass, idle-pass, trim-pass, after-life, after-idle, passed, passes-told, cells-of}
+use Rattle.rules.specs.Items.{Item, Ledger, tickets-of, weight-of, remove}
+use Rattle.rules.specs.Ledger.{by-pass, told-by, items-with, settled}
 use Rattle.rules.proofs.Fronts.{in-append, in-without, looked-again}
 use Rattle.rules.proofs.Erasing.{item, ticket-of, erase, ledger-same, Kept, From, leave-erase, life-from, idle-from, trim-from, k1, k2}
 

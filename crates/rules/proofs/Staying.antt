@@ -22,7 +22,9 @@ use Rattle.rules.specs.declared.departure.Departure.{Departure}
 use Rattle.rules.specs.Kinds.{Kind}
 use Rattle.rules.specs.Entries.{Sizes, Entry, State}
 use Rattle.rules.specs.Limits.{latest}
-use Rattle.rules.specs.Calls.{Outcome, outcome, Verdict, Fits, Outvotes, Loses, none, held, verdict, got, asked, struck, inserted, came, counted, joined, full, expired, cells-of, leave, to-back, touch-entry, replace-entry, admit, life-pass, idle-pass, trim-pass, after-life, after-idle, passed, passes-told, step}
+use Rattle.rules.specs.Passes.{expired, cells-of, leave, life-pass, idle-pass, trim-pass, after-life, after-idle, passed, passes-told}
+use Rattle.rules.specs.Votes.{Verdict, Fits, Outvotes, Loses, none, verdict}
+use Rattle.rules.specs.Calls.{Outcome, outcome, held, got, asked, struck, inserted, came, counted, joined, full, to-back, touch-entry, replace-entry, admit, step}
 use Rattle.rules.specs.Laws.{Stay}
 use Rattle.rules.proofs.Fronts.{some-one, first-in, in-without}
 

@@ -23,8 +23,11 @@ use Rattle.rules.specs.declared.departure.Departure.{Departure}
 use Rattle.rules.specs.Kinds.{Kind, Lawful}
 use Rattle.rules.specs.Entries.{Sizes, Entry, State}
 use Rattle.rules.specs.Limits.{top}
-use Rattle.rules.specs.Calls.{Outcome, with-sketch, held, verdict, Verdict, Fits, Outvotes, Loses, none, got, asked, struck, inserted, came, counted, expired, touch-entry, replace-entry, admit, leave, told, cells-of, joined, opened-sketch, newcomer, full}
-use Rattle.rules.specs.Ledger.{by-pass, told-by, outvoted, Item, Ledger, lapsed, item-of, fitting, is-hit, takes-in, telling, counting, touch-item, replace-item, add-item, remove, opened-after, newly, upon-get, upon-insert, upon-invalidate}
+use Rattle.rules.specs.Passes.{expired, leave, told, cells-of}
+use Rattle.rules.specs.Votes.{verdict, Verdict, Fits, Outvotes, Loses, none}
+use Rattle.rules.specs.Calls.{Outcome, with-sketch, held, got, asked, struck, inserted, came, counted, touch-entry, replace-entry, admit, joined, opened-sketch, newcomer, full}
+use Rattle.rules.specs.Items.{Item, Ledger, lapsed, telling, touch-item, replace-item, add-item, remove}
+use Rattle.rules.specs.Ledger.{by-pass, told-by, outvoted, item-of, fitting, is-hit, takes-in, counting, opened-after, newly, upon-get, upon-insert, upon-invalidate}
 use Rattle.rules.specs.Account.{times, Running, Hits-right, Insert-right, Invalidate-right}
 use Rattle.rules.proofs.Fronts.{looked-again, tally-append, tally-without, first-in, first-none, in-freeing, seen, map-first}
 use Rattle.rules.proofs.Erasing.{item, erase, Kept, map-again, leave-erase, leave-kept}

@@ -20,9 +20,12 @@ use Rattle.rules.specs.declared.departure.Departure.{Departure}
 use Rattle.rules.specs.Kinds.{Kind, Lawful}
 use Rattle.rules.specs.Entries.{Sizes, Entry, State, fresh}
 use Rattle.rules.specs.Limits.{top, latest, plus, excess}
-use Rattle.rules.specs.Calls.{Outcome, held, verdict, Verdict, Fits, Outvotes, Loses, none, got, asked, struck, inserted, came, counted, expired, to-back, touched-at, rewritten, touch-entry, replace-entry, admit, leave, written, cells-of, joined, newcomer, full, lived-out, idled-out, life-pass, idle-pass, trim-pass, after-life, after-idle, passed, passes-told, timely, outcome, step}
+use Rattle.rules.specs.Passes.{expired, leave, written, cells-of, lived-out, idled-out, life-pass, idle-pass, trim-pass, after-life, after-idle, passed, passes-told}
+use Rattle.rules.specs.Votes.{verdict, Verdict, Fits, Outvotes, Loses, none}
+use Rattle.rules.specs.Calls.{Outcome, held, got, asked, struck, inserted, came, counted, to-back, touched-at, rewritten, touch-entry, replace-entry, admit, joined, newcomer, full, timely, outcome, step}
 use Rattle.rules.specs.Runs.{Turn, after, line, end}
-use Rattle.rules.specs.Ledger.{Ledger, empty, handing, fitting}
+use Rattle.rules.specs.Items.{Ledger, empty}
+use Rattle.rules.specs.Ledger.{handing, fitting}
 use Rattle.rules.specs.Account.{times, told-tickets, Free, All-free, state-after}
 use Rattle.rules.specs.Sums.{Adds-up, Sums-of}
 use Rattle.rules.proofs.Fronts.{tally-append, tally-without, in-tally, first-in, same-one, in-without, in-append, in-freeing, in-looked}

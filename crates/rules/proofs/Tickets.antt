@@ -23,7 +23,9 @@ use Rattle.rules.specs.declared.departure.Departure.{Departure}
 use Rattle.rules.specs.Kinds.{Kind}
 use Rattle.rules.specs.Entries.{Sizes, Entry, State}
 use Rattle.rules.specs.Limits.{latest, plus}
-use Rattle.rules.specs.Calls.{Outcome, held, verdict, Verdict, Fits, Outvotes, Loses, none, got, asked, struck, inserted, came, counted, expired, touched-at, rewritten, touch-entry, replace-entry, admit, leave, told, joined, newcomer, full, passed, passes-told, step}
+use Rattle.rules.specs.Passes.{expired, leave, told, passed, passes-told}
+use Rattle.rules.specs.Votes.{verdict, Verdict, Fits, Outvotes, Loses, none}
+use Rattle.rules.specs.Calls.{Outcome, held, got, asked, struck, inserted, came, counted, touched-at, rewritten, touch-entry, replace-entry, admit, joined, newcomer, full, step}
 use Rattle.rules.specs.Ledger.{handing, fitting}
 use Rattle.rules.specs.Account.{times, told-tickets}
 use Rattle.rules.proofs.Fronts.{tally-append, first-in, in-freeing}

@@ -22,8 +22,9 @@ use Rattle.rules.specs.declared.departure.Departure.{Departure}
 use Rattle.rules.specs.Kinds.{Kind}
 use Rattle.rules.specs.Entries.{Sizes, Entry, State}
 use Rattle.rules.specs.Limits.{fits, within}
-use Rattle.rules.specs.Calls.{popularity, vote, verdict, Verdict, Fits, Outvotes, Loses}
-use Rattle.rules.specs.Ledger.{Item, Ledger, weight-of, popularity-of, fitting, takes-in, telling}
+use Rattle.rules.specs.Votes.{popularity, vote, verdict, Verdict, Fits, Outvotes, Loses}
+use Rattle.rules.specs.Items.{Item, Ledger, weight-of, telling}
+use Rattle.rules.specs.Ledger.{popularity-of, fitting, takes-in}
 use Rattle.rules.specs.Account.{Run, Shortest, Within, No-cell, Newcomer-right}
 use Rattle.rules.proofs.Fronts.{in-freeing, map-freeing, map-total}
 use Rattle.rules.proofs.Erasing.{item, erase, Kept}

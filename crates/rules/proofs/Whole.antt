@@ -14,9 +14,11 @@ use Rattle.rules.specs.declared.departure.Departure.{Departure}
 use Rattle.rules.specs.Kinds.{Kind, Lawful}
 use Rattle.rules.specs.Entries.{Sizes, Entry, State, fresh}
 use Rattle.rules.specs.Limits.{top}
-use Rattle.rules.specs.Calls.{step, cells-of}
+use Rattle.rules.specs.Passes.{cells-of}
+use Rattle.rules.specs.Calls.{step}
 use Rattle.rules.specs.Runs.{Turn, Line, after, line, end, log}
-use Rattle.rules.specs.Ledger.{Item, Ledger, empty, tickets-of, handing, entered, follow}
+use Rattle.rules.specs.Items.{Item, Ledger, empty, tickets-of}
+use Rattle.rules.specs.Ledger.{handing, entered, follow}
 use Rattle.rules.specs.Account.{times, told-tickets, all-told, all-handed, Right, Free, All-free, held-tickets, Accounted, Account, state-after, log-of, ledger-after}
 use Rattle.rules.proofs.Fronts.{tally-append}
 use Rattle.rules.proofs.Erasing.{item, erase, Kept, map-again}

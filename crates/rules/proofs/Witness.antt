@@ -11,7 +11,9 @@ use Rattle.kinds.specs.Tags.{tag-byte, tag-bytes, joined, folded-tag, filled-by
 use Rattle.rules.specs.Rounding.{weighed-size}
 use Rattle.rules.specs.Entries.{fresh}
 use Rattle.rules.specs.Opening.{opening-size, opens, opening}
-use Rattle.rules.specs.Calls.{leave, life-pass, idle-pass, trim-pass, passed, passes-told, touch-entry, replace-entry, admit, verdict, step}
+use Rattle.rules.specs.Passes.{leave, life-pass, idle-pass, trim-pass, passed, passes-told}
+use Rattle.rules.specs.Votes.{verdict}
+use Rattle.rules.specs.Calls.{touch-entry, replace-entry, admit, step}
 use Rattle.rules.specs.Runs.{end, log}
 use Rattle.rules.specs.Hub.{tags}
 use Rattle.rules.specs.Account.{All-free}

@@ -22,9 +22,10 @@ use Rattle.rules.specs.declared.departure.Departure.{Departure}
 use Rattle.rules.specs.Kinds.{Kind, Lawful}
 use Rattle.rules.specs.Entries.{Sizes, Entry, State, fresh}
 use Rattle.rules.specs.Limits.{latest, within}
-use Rattle.rules.specs.Calls.{cells-of}
+use Rattle.rules.specs.Passes.{cells-of}
 use Rattle.rules.specs.Runs.{Turn, Line, after, line, end, log}
-use Rattle.rules.specs.Ledger.{Item, Ledger, empty, tickets-of, weight-of, telling, lapsed, clearing, settled, handing, takes-in, item-of, popularity-of, fitting, follow}
+use Rattle.rules.specs.Items.{Item, Ledger, empty, tickets-of, weight-of, telling, lapsed, clearing}
+use Rattle.rules.specs.Ledger.{settled, handing, takes-in, item-of, popularity-of, fitting, follow}
 
 -- ---- every entry is accounted for
 
@@ -40,15 +41,17 @@ pub record Accounted (told handed held : List ℕ) : Type 0 where
   pub others-held : (t : ℕ) → 0 < times t handed → times t told ≡ 0 → 0 < times t held
   pub held-others : (t : ℕ) → 0 < times t held → (0 < times t handed) × (times t told ≡ 0)
 
+-- the tickets of departures
 abbrev pub told-tickets : List Departure → List ℕ
 told-tickets ds = map (λ (d : Departure). d .ticket) ds
 
 module _ {Key Value : Type 0} where
-  -- all tickets told, and all handed out, in a log
+  -- all tickets told in a log
   unfoldable pub all-told : List (Line Key Value) → List ℕ
   all-told [] = []
   all-told (x ∷ xs) = told-tickets (x .departures) ++ all-told xs
 
+  -- all tickets handed out in a log
   unfoldable pub all-handed : List (Line Key Value) → List ℕ
   all-handed [] = []
   all-handed (x ∷ xs) = handing (x .answer) ++ all-handed xs
@@ -85,6 +88,7 @@ module _ {Key Value : Type 0} (kind : Kind Key Value) where
     pub least : (m : ℕ) → Run l k v m → n ≤ m
 
 module _ {Key Value : Type 0} (kind : Kind Key Value) (choices : Choices) (sizes : Sizes) where
+  -- a newcomer's weight alone is within the capacity
   abbrev pub Within : Key → Value → Type 0
   Within k v = within (choices .capacity) (kind .weighs k v) ≡ true
 
@@ -118,6 +122,7 @@ pub record Late {Value : Type 0} (a : Answer Value) (ds : List Departure) : Type
   pub answer : a ≡ Refused BeyondRange
   pub nobody : ds ≡ []
 
+-- right, where the instant is not too late
 abbrev pub Timely : {Value : Type 0} → ℕ → Answer Value → List Departure → Type 0 → Type 0
 Timely now a ds P = cond (leb now latest) P (Late a ds)
 
@@ -126,15 +131,18 @@ module _ {Key Value : Type 0} where
   abbrev pub Tells : Choices → Ledger Key Value → ℕ → List Departure → List Departure → Type 0
   Tells choices l now ds rest = ds ≡ clearing choices now l ++ rest
 
+  -- an invalidate strikes the key's item, if there is one, and no other
   abbrev pub Invalidate-right : Option (Item Key Value) → Answer Value → List Departure → Type 0
   Invalidate-right None a rest = (a ≡ Absent) × (rest ≡ [])
   Invalidate-right (Some i) a rest = (a ≡ Struck) × (rest ≡ telling StruckOut (i ∷ []))
 
 module _ {Key Value : Type 0} (kind : Kind Key Value) (choices : Choices) where
+  -- a get tells what the passes take, and hits rightly
   pub record Get-right (l : Ledger Key Value) (k : Key) (now : ℕ) (a : Answer Value) (ds : List Departure) : Type 0 where
     pub tells : Tells choices l now ds []
     pub hits : Hits-right kind choices (settled ds l) k now a
 
+  -- contains_key tells what the passes take, and says yes exactly when the key's item runs
   pub record Contains-right (l : Ledger Key Value) (k : Key) (now : ℕ) (a : Answer Value) (ds : List Departure) : Type 0 where
     pub tells : Tells choices l now ds []
     pub says-yes : (i : Item Key Value) → Running kind choices (settled ds l) k now i → a ≡ Yes
@@ -168,9 +176,11 @@ module _ {Key Value : Type 0} (kind : Kind Key Value) (choices : Choices) (sizes
   All-free s [] = Unit {0}
   All-free s (t ∷ ts) = Free s t × All-free (after kind choices sizes s t) ts
 
+  -- the state after a list of calls on a fresh cache
   abbrev pub state-after : List (Turn Key Value) → State Key Value
   state-after ts = end kind choices sizes fresh ts
 
+  -- what is told of it
   abbrev pub log-of : List (Turn Key Value) → List (Line Key Value)
   log-of ts = log kind choices sizes fresh ts
 
@@ -178,6 +188,7 @@ module _ {Key Value : Type 0} (kind : Kind Key Value) (choices : Choices) (sizes
   abbrev pub ledger-after : List (Turn Key Value) → Ledger Key Value
   ledger-after ts = follow kind choices sizes empty (log-of ts)
 
+  -- the account of a list of calls
   pub record Account (ts : List (Turn Key Value)) : Type 0 where
     -- after the calls, every ticket is accounted for
     pub accounted : Accounted (all-told (log-of ts)) (all-handed (log-of ts)) (held-tickets (state-after ts))

@@ -1,106 +1,36 @@
 -- What each call does: the state after it, the answer, and who left.
-use mathlib.Core.Bool.{Bool, true, false, cond, _&&_, _||_}
-use mathlib.Core.List.{List, [], _∷_, _++_, map}
-use Prim.Native.Nat.{ℕ, _+_, _-_, _*_, _/_, _^_, min}
-use lib.ListN.{length, take}
-use lib.Dec.{eqb, leb, ltb}
+use mathlib.Core.Bool.{Bool, cond, _&&_}
+use mathlib.Core.List.{List, [], _∷_, _++_}
+use Prim.Native.Nat.{ℕ, _-_}
+use lib.ListN.{length}
+use lib.Dec.{eqb, leb}
 use Rattle.std.specs.declared.option.Option.{Option}
 use Rattle.std.specs.declared.option.Option.the-variants.{Some, None}
-use Rattle.rules.specs.Fronts.{total, without, passing, freeing, first, among, looked}
-use Rattle.sketch.specs.Sketches.{Sketch, frequency, incremented}
-use Rattle.times.specs.Expiry as times
+use Rattle.sketch.specs.Sketches.{Sketch, incremented}
+use Rattle.rules.specs.Fronts.{without, first}
 use Rattle.rules.specs.declared.choices.Choices.{Choices}
 use Rattle.rules.specs.declared.call.Call.{Call}
 use Rattle.rules.specs.declared.call.Call.the-variants.{Get, Contains, Insert, Invalidate, InvalidateAll}
 use Rattle.rules.specs.declared.answer.Answer.{Answer}
 use Rattle.rules.specs.declared.answer.Answer.the-variants.{Hit, Miss, Yes, No, New, Replaced, TurnedAway, Struck, Absent, Swept, Refused}
 use Rattle.rules.specs.declared.refusal.Refusal.the-variants.{BeyondRange, NoCell}
-use Rattle.rules.specs.declared.departure.Cause.{Cause}
-use Rattle.rules.specs.declared.departure.Cause.the-variants.{LivedOut, IdledOut, Trimmed, Outvoted, StruckOut, SweptOut}
+use Rattle.rules.specs.declared.departure.Cause.the-variants.{Outvoted, StruckOut, SweptOut}
 use Rattle.rules.specs.declared.departure.Departure.{Departure}
 use Rattle.rules.specs.Kinds.{Kind}
 use Rattle.rules.specs.Entries.{Sizes, Entry, State}
-use Rattle.rules.specs.Limits.{plus, excess, fits, within, kept, batch, top, latest}
+use Rattle.rules.specs.Limits.{plus, kept, latest}
 use Rattle.rules.specs.Opening.{opening}
-
--- what becomes of a newcomer: it fits, or gets in by a run that leaves for it, or is turned away
-pub data Verdict (A : Type 0) : Type 0 where
-  Fits : Verdict A
-  Outvotes : List A → Verdict A
-  Loses : Verdict A
-
--- nobody is in a run
-abbrev pub none : {A : Type 0} → List A → Bool
-none [] = true
-none (x ∷ xs) = false
+use Rattle.rules.specs.Passes.{leave, told, expired, passed, passes-told}
+use Rattle.rules.specs.Votes.{Verdict, Fits, Outvotes, Loses, none, verdict}
 
 module _ {Key Value : Type 0} where
-  -- ---- leaving
-
-  abbrev pub cells-of : List (Entry Key Value) → List ℕ
-  cells-of es = map (λ (e : Entry Key Value). e .cell) es
-
-  -- these entries leave, with their weights
-  unfoldable pub leave : List (Entry Key Value) → State Key Value → State Key Value
-  leave es s = record {
-    touch = without (λ (e : Entry Key Value). among (cells-of es) (e .cell)) (s .touch);
-    write = without (among (cells-of es)) (s .write);
-    next = s .next;
-    recorded = s .recorded - total (λ (e : Entry Key Value). e .weight) es;
-    count = s .count - length es;
-    sketch = s .sketch;
-  }
-
-  -- how a departure is told
-  abbrev pub told : Cause → List (Entry Key Value) → List Departure
-  told why es = map (λ (e : Entry Key Value). record { ticket = e .ticket; cause = why }) es
-
-  -- the entries in write order
-  abbrev pub written : State Key Value → List (Entry Key Value)
-  written s = looked (λ (e : Entry Key Value). e .cell) (s .touch) (s .write)
-
-  -- ---- the passes
-
-  module _ (choices : Choices) (now : ℕ) where
-    abbrev pub lived-out : Entry Key Value → Bool
-    lived-out e = times.expired (choices .life) (e .written) now
-
-    abbrev pub idled-out : Entry Key Value → Bool
-    idled-out e = times.expired (choices .idle) (e .touched) now
-
-    abbrev pub expired : Entry Key Value → Bool
-    expired e = lived-out e || idled-out e
-
-    -- whom each pass takes
-    unfoldable pub life-pass : State Key Value → List (Entry Key Value)
-    life-pass s = batch (passing lived-out (written s))
-
-    unfoldable pub idle-pass : State Key Value → List (Entry Key Value)
-    idle-pass s = batch (passing idled-out (s .touch))
-
-    unfoldable pub trim-pass : State Key Value → List (Entry Key Value)
-    trim-pass s = batch (freeing (λ (e : Entry Key Value). e .weight) (excess (choices .capacity) (s .recorded)) (s .touch))
-
-    abbrev pub after-life : State Key Value → State Key Value
-    after-life s = leave (life-pass s) s
-
-    abbrev pub after-idle : State Key Value → State Key Value
-    after-idle s = leave (idle-pass (after-life s)) (after-life s)
-
-    -- the state after the three passes
-    unfoldable pub passed : State Key Value → State Key Value
-    passed s = leave (trim-pass (after-idle s)) (after-idle s)
-
-    -- the departures of the three passes
-    unfoldable pub passes-told : State Key Value → List Departure
-    passes-told s = told LivedOut (life-pass s) ++ (told IdledOut (idle-pass (after-life s)) ++ told Trimmed (trim-pass (after-idle s)))
-
   -- ---- entries that change
 
   -- an entry goes to the back of the touch order
   abbrev pub to-back : Entry Key Value → List (Entry Key Value) → List (Entry Key Value)
   to-back e es = without (λ (x : Entry Key Value). eqb (x .cell) (e .cell)) es ++ (e ∷ [])
 
+  -- an entry touched at an instant
   abbrev pub touched-at : ℕ → Entry Key Value → Entry Key Value
   touched-at now e = record {
     cell = e .cell;
@@ -113,6 +43,7 @@ module _ {Key Value : Type 0} where
     ticket = e .ticket;
   }
 
+  -- an entry with a new value, its weight and both instants
   abbrev pub rewritten : Value → ℕ → ℕ → Entry Key Value → Entry Key Value
   rewritten v w now e = record {
     cell = e .cell;
@@ -158,6 +89,7 @@ module _ {Key Value : Type 0} where
     sketch = s .sketch;
   }
 
+  -- the same state with another sketch
   abbrev pub with-sketch : Sketch → State Key Value → State Key Value
   with-sketch k s = record { touch = s .touch; write = s .write; next = s .next; recorded = s .recorded; count = s .count; sketch = k }
 
@@ -166,10 +98,7 @@ module _ {Key Value : Type 0} where
     abbrev pub held : Key → State Key Value → Option (Entry Key Value)
     held k s = first (λ (e : Entry Key Value). kind .alike (e .key) k) (s .touch)
 
-    -- a run's popularity
-    abbrev pub popularity : Sketch → List (Entry Key Value) → ℕ
-    popularity k es = total (λ (e : Entry Key Value). frequency k (e .hash)) es
-
+    -- a newcomer, in a cell and with a ticket
     abbrev pub newcomer : ℕ → Key → Value → ℕ → ℕ → Entry Key Value
     newcomer cell k v now ticket = record {
       cell = cell;
@@ -182,19 +111,6 @@ module _ {Key Value : Type 0} where
       ticket = ticket;
     }
 
-    module _ (choices : Choices) where
-      -- the vote: the shortest run that frees the newcomer's weight, against the newcomer
-      abbrev pub vote : ℕ → ℕ → List (Entry Key Value) → Sketch → Verdict (Entry Key Value)
-      vote w hash run k =
-          cond ((within (choices .capacity) w && leb w (total (λ (e : Entry Key Value). e .weight) run)) && ltb (popularity k run) (frequency k hash))
-          (Outvotes run) Loses
-
-      -- the decision on a newcomer, which changes nothing
-      unfoldable pub verdict : Key → Value → State Key Value → Verdict (Entry Key Value)
-      verdict k v s =
-          cond (fits (choices .capacity) (s .recorded) (kind .weighs k v)) Fits
-          (vote (kind .weighs k v) (kind .hashed k) (freeing (λ (e : Entry Key Value). e .weight) (kind .weighs k v) (s .touch)) (s .sketch))
-
 -- what a call leaves: the state after it, its answer, and who left
 pub record Outcome (Key Value : Type 0) : Type 0 where
   pub state : State Key Value
@@ -202,6 +118,7 @@ pub record Outcome (Key Value : Type 0) : Type 0 where
   pub departures : List Departure
 
 module _ {Key Value : Type 0} where
+  -- an outcome by its parts
   abbrev pub outcome : State Key Value → Answer Value → List Departure → Outcome Key Value
   outcome s a ds = record { state = s; answer = a; departures = ds }
 
@@ -212,10 +129,12 @@ module _ {Key Value : Type 0} where
   got choices now None s ds = outcome s Miss ds
   got choices now (Some e) s ds = cond (expired choices now e) (outcome s Miss ds) (outcome (touch-entry now e s) (Hit (e .value)) ds)
 
+  -- contains_key: changes nothing
   abbrev pub asked : Choices → ℕ → Option (Entry Key Value) → State Key Value → List Departure → Outcome Key Value
   asked choices now None s ds = outcome s No ds
   asked choices now (Some e) s ds = outcome s (cond (expired choices now e) No Yes) ds
 
+  -- invalidate: the key's entry leaves, expired or not
   abbrev pub struck : Option (Entry Key Value) → State Key Value → List Departure → Outcome Key Value
   struck None s ds = outcome s Absent ds
   struck (Some e) s ds = outcome (leave (e ∷ []) s) Struck (ds ++ told StruckOut (e ∷ []))
@@ -228,6 +147,7 @@ module _ {Key Value : Type 0} where
   abbrev pub full : Sizes → State Key Value → Bool
   full sizes s = leb (sizes .cells) (length (s .touch))
 
+  -- the key's hash counted
   abbrev pub counted : Kind Key Value → Key → State Key Value → State Key Value
   counted kind k s = with-sketch (incremented (s .sketch) (kind .hashed k)) s
 
@@ -237,6 +157,7 @@ module _ {Key Value : Type 0} where
       with-sketch (opening (kind .weighed) (sizes .words) (s .count) (s .recorded) (choices .capacity) (s .sketch)) s
 
 module _ {Key Value : Type 0} (kind : Kind Key Value) (choices : Choices) (sizes : Sizes) (free : ℕ) where
+  -- the state with a newcomer in the free cell and the next ticket
   abbrev pub joined : Key → Value → ℕ → State Key Value → State Key Value
   joined k v now s = admit (choices .life) (newcomer kind free k v now (s .next)) s
 
@@ -248,12 +169,12 @@ module _ {Key Value : Type 0} (kind : Kind Key Value) (choices : Choices) (sizes
       cond (none run && full sizes s) (outcome s (Refused NoCell) ds) (outcome (joined k v now (leave run s)) (New (s .next)) (ds ++ told Outvoted run))
   came k v now Loses s ds = outcome s TurnedAway ds
 
+  -- insert: a held key's entry is replaced, expired or not; another key is a newcomer
   abbrev pub inserted : Key → Value → ℕ → Option (Entry Key Value) → State Key Value → List Departure → Outcome Key Value
   inserted k v now None s ds = came k v now (verdict kind choices k v s) s ds
   inserted k v now (Some e) s ds = outcome (replace-entry (choices .life) v (kind .weighs k v) now e s) (Replaced (e .ticket)) ds
 
-  -- ---- the calls
-
+  -- What each call does, in a state, where a newcomer would get the cell `free`: no answer and no departure depends on that cell.
   unfoldable pub step : State Key Value → Call Key Value → Outcome Key Value
   step s (Get k now) =
       timely now s (got choices now (held kind k (passed choices now s)) (counted kind k (passed choices now s)) (passes-told choices now s))

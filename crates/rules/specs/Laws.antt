@@ -18,7 +18,9 @@ use Rattle.rules.specs.Kinds.{Kind}
 use Rattle.rules.specs.Entries.{Sizes, Entry, State}
 use Rattle.rules.specs.Limits.{plus, fits, within}
 use Rattle.rules.specs.Opening.{opening-size, opening}
-use Rattle.rules.specs.Calls.{Outcome, outcome, written, lived-out, idled-out, expired, life-pass, idle-pass, trim-pass, popularity, step}
+use Rattle.rules.specs.Passes.{written, lived-out, idled-out, expired, life-pass, idle-pass, trim-pass}
+use Rattle.rules.specs.Votes.{popularity}
+use Rattle.rules.specs.Calls.{Outcome, outcome, step}
 
 -- ---- the passes
 
@@ -45,6 +47,7 @@ pub record Passes-clear {Key Value : Type 0} (choices : Choices) (now : ℕ) (s 
   pub trim : (c : ℕ) → choices .capacity ≡ Some c → Trims (λ (e : Entry Key Value). e .weight) (s .recorded - c) (s .touch) (trim-pass choices now s)
   pub unbounded : choices .capacity ≡ None → trim-pass choices now s ≡ []
 
+-- in every state, at every instant
 abbrev pub Passes-clear-fronts : (Key Value : Type 0) → Type 0
 Passes-clear-fronts Key Value = (choices : Choices) (now : ℕ) (s : State Key Value) → Passes-clear choices now s
 
@@ -75,6 +78,7 @@ pub record Expires {Key Value : Type 0} (choices : Choices) (now : ℕ) (e : Ent
       ((d : ℕ) → choices .life ≡ Some d → now < e .written + d) → ((d : ℕ) → choices .idle ≡ Some d → now < e .touched + d)
       → expired choices now e ≡ false
 
+-- every entry, at every instant
 abbrev pub Expires-exactly : (Key Value : Type 0) → Type 0
 Expires-exactly Key Value = (choices : Choices) (now : ℕ) (e : Entry Key Value) → Expires choices now e
 
@@ -89,6 +93,7 @@ pub record Fits-exactly (c recorded w : ℕ) : Type 0 where
   pub alone-too-much : c < w → within (Some c) w ≡ false
   pub alone-unbounded : within None w ≡ true
 
+-- every weight
 abbrev pub Fitting-is-exact : Type 0
 Fitting-is-exact = (c recorded w : ℕ) → Fits-exactly c recorded w
 
@@ -97,6 +102,7 @@ pub record Sum-stops (a b : ℕ) : Type 0 where
   pub exact : a + b < 2 ^ 64 → plus a b ≡ a + b
   pub stops : 2 ^ 64 ≤ a + b → plus a b ≡ 2 ^ 64 - 1
 
+-- every sum
 abbrev pub Sums-stop : Type 0
 Sums-stop = (a b : ℕ) → Sum-stops a b
 
@@ -113,6 +119,7 @@ pub record Opens (weighed : Bool) (words count recorded c : ℕ) (k : Sketch) : 
   pub by-capacity : weighed ≡ false → opening-size weighed count recorded c ≡ c
   pub by-zero : weighed ≡ true → c ≡ 0 → opening-size weighed count recorded c ≡ 0
 
+-- every sketch
 abbrev pub Opens-once : Type 0
 Opens-once = (weighed : Bool) (words count recorded c : ℕ) (k : Sketch) → Opens weighed words count recorded c k
 
@@ -131,6 +138,7 @@ pub record Late {Key Value : Type 0} (now : ℕ) (s : State Key Value) (o : Outc
   pub refused : 2 ^ 62 < now → o ≡ outcome s (Refused BeyondRange) []
   pub else : now ≤ 2 ^ 62 → o .answer ≢ Refused BeyondRange
 
+-- every call that gives an instant, in every state
 abbrev pub Late-is-refused : (Key Value : Type 0) → Type 0
 Late-is-refused Key Value =
     (kind : Kind Key Value) (choices : Choices) (sizes : Sizes) (free : ℕ) (s : State Key Value) (c : Call Key Value) (now : ℕ)
@@ -149,6 +157,7 @@ pub record Stay {Key Value : Type 0} (s : State Key Value) (o : Outcome Key Valu
       ⊎ ((old : Entry Key Value) × In old (s .touch) × (e .ticket ≡ old .ticket) × (e .cell ≡ old .cell) × (e .key ≡ old .key)
       × ((e .value ≡ old .value) ⊎ (o .answer ≡ Replaced (e .ticket))))
 
+-- every call, in every state
 abbrev pub Others-stay : (Key Value : Type 0) → Type 0
 Others-stay Key Value =
     (kind : Kind Key Value) (choices : Choices) (sizes : Sizes) (free : ℕ) (s : State Key Value) (c : Call Key Value)

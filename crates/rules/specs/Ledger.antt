@@ -1,15 +1,12 @@
 -- A ledger: it is given the choices and the sizes, then each call with its answer and the departures told, and nothing else.
-use mathlib.Core.Path.{_≡_}
-use mathlib.Core.Logic.{_≢_}
-use mathlib.Core.Bool.{Bool, true, false, cond, _&&_, _||_}
-use mathlib.Core.List.{List, [], _∷_, _++_, map}
-use Prim.Native.Nat.{ℕ, _+_, _-_, _≤_, _<_}
-use lib.ListN.{length, take}
-use lib.Dec.{eqb, leb}
+use mathlib.Core.Bool.{Bool, true, false, cond}
+use mathlib.Core.List.{List, [], _∷_}
+use Prim.Native.Nat.{ℕ}
+use lib.Dec.{leb}
 use Rattle.std.specs.declared.option.Option.{Option}
 use Rattle.std.specs.declared.option.Option.the-variants.{Some, None}
-use Rattle.rules.specs.Fronts.{total, without, passing, freeing, first, among, looked}
-use Rattle.sketch.specs.Sketches.{Sketch, closed, frequency, incremented}
+use Rattle.sketch.specs.Sketches.{Sketch, frequency, incremented}
+use Rattle.rules.specs.Fronts.{total, first, looked}
 use Rattle.rules.specs.declared.choices.Choices.{Choices}
 use Rattle.rules.specs.declared.call.Call.{Call}
 use Rattle.rules.specs.declared.call.Call.the-variants.{Get, Contains, Insert, Invalidate, InvalidateAll}
@@ -20,132 +17,14 @@ use Rattle.rules.specs.declared.departure.Cause.the-variants.{LivedOut, IdledO
 use Rattle.rules.specs.declared.departure.Departure.{Departure}
 use Rattle.rules.specs.Kinds.{Kind}
 use Rattle.rules.specs.Entries.{Sizes}
-use Rattle.rules.specs.Limits.{latest, plus, excess, fits, within, kept, batch}
+use Rattle.rules.specs.Limits.{fits, latest}
 use Rattle.rules.specs.Opening.{opening}
-use Rattle.times.specs.Expiry as times
+use Rattle.rules.specs.Items.{Item, Ledger, remove, touch-item, replace-item, add-item, sketching, sweep-items}
 use Rattle.rules.specs.Runs.{Line}
-
-pub record Item (Key Value : Type 0) : Type 0 where
-  pub ticket : ℕ
-  pub key : Key
-  pub value : Value
-  pub weight : ℕ
-  pub touched : ℕ
-  pub written : ℕ
-
--- The items, longest untouched first; with a life, their tickets, longest unwritten first; and the numbers of a cache.
-pub record Ledger (Key Value : Type 0) : Type 0 where
-  pub touch : List (Item Key Value)
-  pub write : List ℕ
-  pub next : ℕ
-  pub recorded : ℕ
-  pub count : ℕ
-  pub sketch : Sketch
-
-unfoldable pub empty : {Key Value : Type 0} → Ledger Key Value
-empty = record { touch = []; write = []; next = 1; recorded = 0; count = 0; sketch = closed }
-
-module _ {Key Value : Type 0} where
-  abbrev pub tickets-of : List (Item Key Value) → List ℕ
-  tickets-of is = map (λ (i : Item Key Value). i .ticket) is
-
-  abbrev pub weight-of : List (Item Key Value) → ℕ
-  weight-of is = total (λ (i : Item Key Value). i .weight) is
-
-  -- how items are told to have left
-  abbrev pub telling : Cause → List (Item Key Value) → List Departure
-  telling why is = map (λ (i : Item Key Value). record { ticket = i .ticket; cause = why }) is
-
-  -- these items are gone, with their weights
-  unfoldable pub remove : List (Item Key Value) → Ledger Key Value → Ledger Key Value
-  remove is l = record {
-    touch = without (λ (i : Item Key Value). among (tickets-of is) (i .ticket)) (l .touch);
-    write = without (among (tickets-of is)) (l .write);
-    next = l .next;
-    recorded = l .recorded - weight-of is;
-    count = l .count - length is;
-    sketch = l .sketch;
-  }
-
-  -- the items in write order
-  abbrev pub in-write-order : Ledger Key Value → List (Item Key Value)
-  in-write-order l = looked (λ (i : Item Key Value). i .ticket) (l .touch) (l .write)
-
-  module _ (choices : Choices) (now : ℕ) where
-    -- an item's life, or its idle time, is over
-    abbrev pub outlived : Item Key Value → Bool
-    outlived i = times.expired (choices .life) (i .written) now
-
-    abbrev pub idle-over : Item Key Value → Bool
-    idle-over i = times.expired (choices .idle) (i .touched) now
-
-    abbrev pub lapsed : Item Key Value → Bool
-    lapsed i = outlived i || idle-over i
-
-    -- whom each pass takes from the ledger
-    unfoldable pub by-life : Ledger Key Value → List (Item Key Value)
-    by-life l = batch (passing outlived (in-write-order l))
-
-    unfoldable pub by-idle : Ledger Key Value → List (Item Key Value)
-    by-idle l = batch (passing idle-over (l .touch))
-
-    unfoldable pub by-trim : Ledger Key Value → List (Item Key Value)
-    by-trim l = batch (freeing (λ (i : Item Key Value). i .weight) (excess (choices .capacity) (l .recorded)) (l .touch))
-
-    abbrev pub past-life : Ledger Key Value → Ledger Key Value
-    past-life l = remove (by-life l) l
-
-    abbrev pub past-idle : Ledger Key Value → Ledger Key Value
-    past-idle l = remove (by-idle (past-life l)) (past-life l)
-
-    -- what must be told of them, in their order
-    unfoldable pub clearing : Ledger Key Value → List Departure
-    clearing l = telling LivedOut (by-life l) ++ (telling IdledOut (by-idle (past-life l)) ++ telling Trimmed (by-trim (past-idle l)))
-
-  abbrev pub last : Item Key Value → List (Item Key Value) → List (Item Key Value)
-  last i is = without (λ (x : Item Key Value). eqb (x .ticket) (i .ticket)) is ++ (i ∷ [])
-
-  -- a hit: touched now, last in touch order
-  unfoldable pub touch-item : ℕ → Item Key Value → Ledger Key Value → Ledger Key Value
-  touch-item now i l = record {
-    touch = last (record { ticket = i .ticket; key = i .key; value = i .value; weight = i .weight; touched = now; written = i .written }) (l .touch);
-    write = l .write;
-    next = l .next;
-    recorded = l .recorded;
-    count = l .count;
-    sketch = l .sketch;
-  }
-
-  -- a new value: both instants now, last in both orders
-  unfoldable pub replace-item : Option ℕ → Value → ℕ → ℕ → Item Key Value → Ledger Key Value → Ledger Key Value
-  replace-item life v w now i l = record {
-    touch = last (record { ticket = i .ticket; key = i .key; value = v; weight = w; touched = now; written = now }) (l .touch);
-    write = kept life (without (λ t. eqb t (i .ticket)) (l .write) ++ (i .ticket ∷ []));
-    next = l .next;
-    recorded = plus (l .recorded - i .weight) w;
-    count = l .count;
-    sketch = l .sketch;
-  }
-
-  -- a newcomer: last in both orders, with the next ticket
-  unfoldable pub add-item : Option ℕ → Key → Value → ℕ → ℕ → Ledger Key Value → Ledger Key Value
-  add-item life k v w now l = record {
-    touch = l .touch ++ (record { ticket = l .next; key = k; value = v; weight = w; touched = now; written = now } ∷ []);
-    write = kept life (l .write ++ (l .next ∷ []));
-    next = plus (l .next) 1;
-    recorded = plus (l .recorded) w;
-    count = plus (l .count) 1;
-    sketch = l .sketch;
-  }
-
-  abbrev pub sketching : Sketch → Ledger Key Value → Ledger Key Value
-  sketching k l = record { touch = l .touch; write = l .write; next = l .next; recorded = l .recorded; count = l .count; sketch = k }
-
-  unfoldable pub sweep-items : Ledger Key Value → Ledger Key Value
-  sweep-items l = record { touch = []; write = []; next = l .next; recorded = 0; count = 0; sketch = l .sketch }
 
 -- ---- what is told
 
+-- whether a cause is a vote's
 abbrev pub is-outvoted : Cause → Bool
 is-outvoted LivedOut = false
 is-outvoted IdledOut = false
@@ -154,6 +33,7 @@ is-outvoted Outvoted = true
 is-outvoted StruckOut = false
 is-outvoted SweptOut = false
 
+-- whether a cause is a pass's
 abbrev pub by-pass : Cause → Bool
 by-pass LivedOut = true
 by-pass IdledOut = true
@@ -180,6 +60,7 @@ module _ {Key Value : Type 0} where
   unfoldable pub settled : List Departure → Ledger Key Value → Ledger Key Value
   settled ds l = remove (items-with (told-by by-pass ds) l) l
 
+-- whether an answer is a hit
 abbrev pub is-hit : {Value : Type 0} → Answer Value → Bool
 is-hit (Hit v) = true
 is-hit Miss = false
@@ -230,6 +111,7 @@ module _ {Key Value : Type 0} (kind : Kind Key Value) where
   abbrev pub popularity-of : Sketch → List (Item Key Value) → ℕ
   popularity-of s is = total (λ (i : Item Key Value). frequency s (kind .hashed (i .key))) is
 
+  -- the key's hash counted
   abbrev pub counting : Key → Ledger Key Value → Ledger Key Value
   counting k l = sketching (incremented (l .sketch) (kind .hashed k)) l
 
@@ -240,15 +122,18 @@ module _ {Key Value : Type 0} (kind : Kind Key Value) where
 -- ---- the ledger after a call, by its answer, once the items that the passes take are removed
 
 module _ {Key Value : Type 0} where
+  -- a get: the item touched, if the answer is a hit
   abbrev pub upon-get : ℕ → Bool → Option (Item Key Value) → Ledger Key Value → Ledger Key Value
   upon-get now hit None l = l
   upon-get now hit (Some i) l = cond hit (touch-item now i l) l
 
+  -- an invalidate: the key's item removed
   abbrev pub upon-invalidate : Option (Item Key Value) → Ledger Key Value → Ledger Key Value
   upon-invalidate None l = l
   upon-invalidate (Some i) l = remove (i ∷ []) l
 
 module _ {Key Value : Type 0} (kind : Kind Key Value) (choices : Choices) (sizes : Sizes) where
+  -- the sketch after a newcomer that fitted
   abbrev pub opened-after : Ledger Key Value → Ledger Key Value
   opened-after l = sketching (opening (kind .weighed) (sizes .words) (l .count) (l .recorded) (choices .capacity) (l .sketch)) l
 
@@ -258,6 +143,7 @@ module _ {Key Value : Type 0} (kind : Kind Key Value) (choices : Choices) (sizes
       cond (fitting kind choices l k v) (opened-after (add-item (choices .life) k v (kind .weighs k v) now l))
       (add-item (choices .life) k v (kind .weighs k v) now (remove (items-with gone l) l))
 
+  -- an insert: the key's item replaced, or a newcomer taken in, if the answer says so
   abbrev pub upon-insert : Key → Value → ℕ → Bool → List ℕ → Option (Item Key Value) → Ledger Key Value → Ledger Key Value
   upon-insert k v now taken gone None l = cond taken (newly k v now gone l) l
   upon-insert k v now taken gone (Some i) l = replace-item (choices .life) v (kind .weighs k v) now i l

@@ -28,15 +28,19 @@ pub record Told (Value : Type 0) : Type 0 where
   pub departures : List Departure
 
 module _ {Value : Type 0} where
+  -- an answer with departures
   abbrev pub tells : Answer Value → List Departure → Told Value
   tells a ds = record { answer = a; departures = ds }
 
+  -- an answer with none
   abbrev pub says : Answer Value → Told Value
   says a = tells a []
 
+-- a departure
 abbrev pub left : ℕ → Cause → Departure
 left t why = record { ticket = t; cause = why }
 
+-- choices: capacity, life, idle time
 abbrev pub chosen : Option ℕ → Option ℕ → Option ℕ → Choices
 chosen c l i = record { capacity = c; life = l; idle = i }
 
@@ -44,31 +48,39 @@ chosen c l i = record { capacity = c; life = l; idle = i }
 abbrev pub lent : Sizes
 lent = record { cells = 8; words = 128 }
 
+-- a call, with the cell that it would use
 abbrev pub at-cell : {Value : Type 0} → ℕ → Call ℕ Value → Turn ℕ Value
 at-cell c call = record { free = c; call = call }
 
+-- what is told of a run with serials
 abbrev pub serial-told : Choices → List (Turn ℕ Reading) → List (Told Reading)
 serial-told ch ts = map (λ (l : Line ℕ Reading). tells (l .answer) (l .departures)) (log serials ch lent fresh ts)
 
+-- the state at its end
 abbrev pub serial-end : Choices → List (Turn ℕ Reading) → State ℕ Reading
 serial-end ch ts = end serials ch lent fresh ts
 
+-- what is told of a run with tags
 abbrev pub tag-told : Choices → List (Turn ℕ Log) → List (Told Log)
 tag-told ch ts = map (λ (l : Line ℕ Log). tells (l .answer) (l .departures)) (log tags ch lent fresh ts)
 
+-- the state at its end
 abbrev pub tag-end : Choices → List (Turn ℕ Log) → State ℕ Log
 tag-end ch ts = end tags ch lent fresh ts
 
--- a reading, and a log of a length
+-- a reading
 abbrev pub some-reading : Reading
 some-reading = record { descents = 2300; day = 14 }
 
+-- a serial taken in at an instant, into a cell of its own
 abbrev pub put : ℕ → ℕ → Turn ℕ Reading
 put k now = at-cell (k - 1) (Insert k some-reading now)
 
+-- a serial asked for at an instant
 abbrev pub get : ℕ → ℕ → Turn ℕ Reading
 get k now = at-cell 7 (Get k now)
 
+-- a log of a length taken in under a tag
 abbrev pub put-tag : ℕ → ℕ → ℕ → Turn ℕ Log
 put-tag cell k n = at-cell cell (Insert k (record { length = n; place = 0 }) 0)
 
@@ -82,15 +94,18 @@ gym =
     put-tag 0 0x47594d2d30303031 22 ∷ put-tag 1 0x47594d2d30303032 32 ∷ put-tag 2 0x47594d2d30303033 12
     ∷ at-cell 7 (Get 0x47594d2d30303034 0) ∷ put-tag 3 0x47594d2d30303034 27 ∷ []
 
+-- row 10 goes on from row 9
 abbrev pub gym-more : List (Turn ℕ Log)
 gym-more =
     put-tag 0 0x47594d2d30303031 22 ∷ put-tag 1 0x47594d2d30303032 32 ∷ put-tag 2 0x47594d2d30303033 12
     ∷ at-cell 7 (Get 0x47594d2d30303034 0) ∷ put-tag 3 0x47594d2d30303034 27
     ∷ put-tag 4 0x67796d2d30303033 92 ∷ at-cell 7 (Contains 0x67796d2d30303033 0) ∷ []
 
+-- the weights held, in touch order
 abbrev pub weights : State ℕ Log → List ℕ
 weights s = map (λ (e : Entry ℕ Log). e .weight) (s .touch)
 
+-- all rows
 pub record Samples : Type 0 where
   pub rows-1-2 :
       serial-told (chosen (Some 2) None None) two

@@ -7,9 +7,11 @@ use Rattle.rules.specs.declared.choices.Choices.{Choices}
 use Rattle.rules.specs.declared.call.Call.{Call}
 use Rattle.rules.specs.Kinds.{Kind, Lawful}
 use Rattle.rules.specs.Entries.{Sizes, State, fresh}
-use Rattle.rules.specs.Calls.{Outcome, cells-of, step}
+use Rattle.rules.specs.Passes.{cells-of}
+use Rattle.rules.specs.Calls.{Outcome, step}
 use Rattle.rules.specs.Runs.{Turn, Line, end, log}
-use Rattle.rules.specs.Ledger.{Ledger, empty, tickets-of, handing, entered, follow}
+use Rattle.rules.specs.Items.{Ledger, empty, tickets-of}
+use Rattle.rules.specs.Ledger.{handing, entered, follow}
 use Rattle.rules.specs.Account.{Accounted, times, told-tickets, held-tickets, Right, All-free}
 
 module _ {Key Value : Type 0} (kind : Kind Key Value) (choices : Choices) (sizes : Sizes) where
