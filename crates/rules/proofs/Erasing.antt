@@ -22,6 +22,7 @@ use Rattle.rules.specs.Entries.{Entry, State}
 use Rattle.rules.specs.Limits.{excess, batch}
 use Rattle.rules.specs.Passes.{cells-of, leave, told, written, lived-out, idled-out, life-pass, idle-pass, trim-pass, after-life, after-idle, passed, passes-told}
 use Rattle.rules.specs.Items.{Item, Ledger, tickets-of, telling, remove, in-write-order, outlived, idle-over, by-life, by-idle, by-trim, past-life, past-idle, clearing}
+use Rattle.rules.specs.Agreement.{as-item, ticket-of, ledger-of, Coherent}
 use Rattle.rules.proofs.Fronts.{tally-without, tally-less, in-first, same-one, in-without, in-take, in-passing, in-freeing, in-looked, looked-without, map-without, map-passing, map-freeing, map-total, looked-again}
 
 pub map-again : {A B C : Type 0} (g : B → C) (f : A → B) (xs : List A) → map g (map f xs) ≡ map (λ a. g (f a)) xs
@@ -52,42 +53,15 @@ among-without q (m ∷ ns) n e =
     ]
 
 module _ {Key Value : Type 0} where
-  -- an entry as the ledger has it
-  abbrev pub item : Entry Key Value → Item Key Value
-  item e = record { ticket = e .ticket; key = e .key; value = e .value; weight = e .weight; touched = e .touched; written = e .written }
-
-  abbrev pub ticket-of : Entry Key Value → ℕ
-  ticket-of e = e .ticket
-
-  unfoldable pub erase : State Key Value → Ledger Key Value
-  erase s = record {
-    touch = map item (s .touch);
-    write = map ticket-of (written s);
-    next = s .next;
-    recorded = s .recorded;
-    count = s .count;
-    sketch = s .sketch;
-  }
-
   pub ledger-same : {t t′ : List (Item Key Value)} {w w′ : List ℕ} {n n′ r r′ c c′ : ℕ} {k k′ : Sketch}
       → t ≡ t′ → w ≡ w′ → n ≡ n′ → r ≡ r′ → c ≡ c′ → k ≡ k′
       → _≡_ {A = Ledger Key Value} (record { touch = t; write = w; next = n; recorded = r; count = c; sketch = k }) (record { touch = t′; write = w′; next = n′; recorded = r′; count = c′; sketch = k′ })
   ledger-same a b c d e f = λ i. record { touch = a i; write = b i; next = c i; recorded = d i; count = e i; sketch = f i }
 
-  -- what every state keeps
-  pub record Kept (kind : Kind Key Value) (s : State Key Value) : Type 0 where
-    pub cells : (n : ℕ) → tally (λ (e : Entry Key Value). eqb (e .cell) n) (s .touch) ≤ 1
-    pub tickets : (n : ℕ) → tally (λ (e : Entry Key Value). eqb (e .ticket) n) (s .touch) ≤ 1
-    pub keys : (k : Key) → tally (λ (e : Entry Key Value). kind .alike (e .key) k) (s .touch) ≤ 1
-    pub hashes : (e : Entry Key Value) → In e (s .touch) → e .hash ≡ kind .hashed (e .key)
-    pub below : (e : Entry Key Value) → In e (s .touch) → e .ticket < s .next
-    pub listed : (n : ℕ) → among (s .write) n ≡ true → (e : Entry Key Value) × In e (s .touch) × (e .cell ≡ n)
-    pub once : (n : ℕ) → tally (λ m. eqb m n) (s .write) ≤ 1
-
   abbrev pub From : List (Entry Key Value) → State Key Value → Type 0
   From es s = (e : Entry Key Value) → In e es → In e (s .touch)
 
-  module _ (kind : Kind Key Value) (s : State Key Value) (kept : Kept kind s) where
+  module _ (kind : Kind Key Value) (s : State Key Value) (kept : Coherent kind s) where
     -- two entries have one cell exactly when they have one ticket
     pub same-ids : (e x : Entry Key Value) → In e (s .touch) → In x (s .touch) → eqb (e .cell) (x .cell) ≡ eqb (e .ticket) (x .ticket)
     same-ids e x i j =
@@ -105,22 +79,22 @@ module _ {Key Value : Type 0} where
     among-same [] f x j = refl
     among-same (e ∷ es) f x j = rw (same-ids e x (f e (inl refl)) j, among-same es (λ a i. f a (inr i)) x j)
 
-    pub leave-erase : (es : List (Entry Key Value)) → From es s → erase (leave es s) ≡ remove (map item es) (erase s)
-    unfolding erase leave remove
+    pub leave-erase : (es : List (Entry Key Value)) → From es s → ledger-of (leave es s) ≡ remove (map as-item es) (ledger-of s)
+    unfolding ledger-of leave remove
     leave-erase es f =
-        let t : tickets-of (map item es) ≡ map ticket-of es = map-again (λ (i : Item Key Value). i .ticket) item es in
-        let same : (x : Entry Key Value) → In x (s .touch) → among (cells-of es) (x .cell) ≡ among (tickets-of (map item es)) (x .ticket) =
+        let t : tickets-of (map as-item es) ≡ map ticket-of es = map-again (λ (i : Item Key Value). i .ticket) as-item es in
+        let same : (x : Entry Key Value) → In x (s .touch) → among (cells-of es) (x .cell) ≡ among (tickets-of (map as-item es)) (x .ticket) =
         λ x j. among-same es f x j ∙ ap (λ (ts : List ℕ). among ts (x .ticket)) (sym t) in
         ledger-same
-        (map-without item (λ (e : Entry Key Value). among (cells-of es) (e .cell)) (λ (i : Item Key Value). among (tickets-of (map item es)) (i .ticket)) (s .touch) same)
+        (map-without as-item (λ (e : Entry Key Value). among (cells-of es) (e .cell)) (λ (i : Item Key Value). among (tickets-of (map as-item es)) (i .ticket)) (s .touch) same)
         (ap (map ticket-of) (looked-without (λ (e : Entry Key Value). e .cell) (cells-of es) (s .touch) (s .write))
-        ∙ map-without ticket-of (λ (e : Entry Key Value). among (cells-of es) (e .cell)) (among (tickets-of (map item es))) (written s) (λ x j. same x (in-looked (λ (e : Entry Key Value). e .cell) x (s .touch) (s .write) j)))
+        ∙ map-without ticket-of (λ (e : Entry Key Value). among (cells-of es) (e .cell)) (among (tickets-of (map as-item es))) (written s) (λ x j. same x (in-looked (λ (e : Entry Key Value). e .cell) x (s .touch) (s .write) j)))
         refl
-        (ap (λ (n : ℕ). s .recorded - n) (sym (map-total item (λ (i : Item Key Value). i .weight) es)))
-        (ap (λ (n : ℕ). s .count - n) (sym (length-map es item)))
+        (ap (λ (n : ℕ). s .recorded - n) (sym (map-total as-item (λ (i : Item Key Value). i .weight) es)))
+        (ap (λ (n : ℕ). s .count - n) (sym (length-map es as-item)))
         refl
 
-    pub leave-kept : (es : List (Entry Key Value)) → Kept kind (leave es s)
+    pub leave-kept : (es : List (Entry Key Value)) → Coherent kind (leave es s)
     unfolding leave
     leave-kept es =
         let q : Entry Key Value → Bool = λ e. among (cells-of es) (e .cell) in
@@ -137,14 +111,14 @@ module _ {Key Value : Type 0} where
           once = λ n. omega (arith, kept .once n, tally-without (λ m. eqb m n) (among (cells-of es)) (s .write));
         }
 
-    pub order-erase : in-write-order (erase s) ≡ map item (written s)
-    unfolding erase
-    order-erase = looked-again item (λ (i : Item Key Value). i .ticket) (s .touch) (written s) (kept .tickets) (λ e i. in-looked (λ (x : Entry Key Value). x .cell) e (s .touch) (s .write) i)
+    pub order-erase : in-write-order (ledger-of s) ≡ map as-item (written s)
+    unfolding ledger-of
+    order-erase = looked-again as-item (λ (i : Item Key Value). i .ticket) (s .touch) (written s) (kept .tickets) (λ e i. in-looked (λ (x : Entry Key Value). x .cell) e (s .touch) (s .write) i)
 
   -- ---- the passes
 
-  told-erase : (why : Cause) (es : List (Entry Key Value)) → told why es ≡ telling why (map item es)
-  told-erase why es = sym (map-again (λ (i : Item Key Value). record { ticket = i .ticket; cause = why }) item es)
+  told-erase : (why : Cause) (es : List (Entry Key Value)) → told why es ≡ telling why (map as-item es)
+  told-erase why es = sym (map-again (λ (i : Item Key Value). record { ticket = i .ticket; cause = why }) as-item es)
 
   module _ (kind : Kind Key Value) (choices : Choices) (now : ℕ) where
     pub life-from : (s : State Key Value) → From (life-pass choices now s) s
@@ -153,21 +127,21 @@ module _ {Key Value : Type 0} where
         in-looked (λ (x : Entry Key Value). x .cell) e (s .touch) (s .write)
         (in-passing (lived-out choices now) e (written s) (in-take 100 e (passing (lived-out choices now) (written s)) i))
 
-    life-erase : (s : State Key Value) → Kept kind s → map item (life-pass choices now s) ≡ by-life choices now (erase s)
+    life-erase : (s : State Key Value) → Coherent kind s → map as-item (life-pass choices now s) ≡ by-life choices now (ledger-of s)
     unfolding life-pass by-life
     life-erase s k =
-        sym (take-map item 100 (passing (lived-out choices now) (written s)))
-        ∙ ap (take 100) (map-passing item (outlived choices now) (written s) ∙ ap (passing (outlived choices now)) (sym (order-erase kind s k)))
+        sym (take-map as-item 100 (passing (lived-out choices now) (written s)))
+        ∙ ap (take 100) (map-passing as-item (outlived choices now) (written s) ∙ ap (passing (outlived choices now)) (sym (order-erase kind s k)))
 
     pub idle-from : (s : State Key Value) → From (idle-pass choices now s) s
     unfolding idle-pass
     idle-from s e i = in-passing (idled-out choices now) e (s .touch) (in-take 100 e (passing (idled-out choices now) (s .touch)) i)
 
-    idle-erase : (s : State Key Value) → map item (idle-pass choices now s) ≡ by-idle choices now (erase s)
-    unfolding idle-pass by-idle erase
+    idle-erase : (s : State Key Value) → map as-item (idle-pass choices now s) ≡ by-idle choices now (ledger-of s)
+    unfolding idle-pass by-idle ledger-of
     idle-erase s =
-        sym (take-map item 100 (passing (idled-out choices now) (s .touch)))
-        ∙ ap (take 100) (map-passing item (idle-over choices now) (s .touch))
+        sym (take-map as-item 100 (passing (idled-out choices now) (s .touch)))
+        ∙ ap (take 100) (map-passing as-item (idle-over choices now) (s .touch))
 
     pub trim-from : (s : State Key Value) → From (trim-pass choices now s) s
     unfolding trim-pass
@@ -175,43 +149,43 @@ module _ {Key Value : Type 0} where
         let w : Entry Key Value → ℕ = λ x. x .weight in
         in-freeing w (excess (choices .capacity) (s .recorded)) e (s .touch) (in-take 100 e (freeing w (excess (choices .capacity) (s .recorded)) (s .touch)) i)
 
-    trim-erase : (s : State Key Value) → map item (trim-pass choices now s) ≡ by-trim choices now (erase s)
-    unfolding trim-pass by-trim erase
+    trim-erase : (s : State Key Value) → map as-item (trim-pass choices now s) ≡ by-trim choices now (ledger-of s)
+    unfolding trim-pass by-trim ledger-of
     trim-erase s =
         let w : Entry Key Value → ℕ = λ x. x .weight in
-        sym (take-map item 100 (freeing w (excess (choices .capacity) (s .recorded)) (s .touch)))
-        ∙ ap (take 100) (map-freeing item (λ (i : Item Key Value). i .weight) (excess (choices .capacity) (s .recorded)) (s .touch))
+        sym (take-map as-item 100 (freeing w (excess (choices .capacity) (s .recorded)) (s .touch)))
+        ∙ ap (take 100) (map-freeing as-item (λ (i : Item Key Value). i .weight) (excess (choices .capacity) (s .recorded)) (s .touch))
 
-    module _ (s : State Key Value) (k : Kept kind s) where
-      pub k1 : Kept kind (after-life choices now s)
+    module _ (s : State Key Value) (k : Coherent kind s) where
+      pub k1 : Coherent kind (after-life choices now s)
       k1 = leave-kept kind s k (life-pass choices now s)
 
-      e1 : erase (after-life choices now s) ≡ past-life choices now (erase s)
-      e1 = leave-erase kind s k (life-pass choices now s) (life-from s) ∙ ap (λ (is : List (Item Key Value)). remove is (erase s)) (life-erase s k)
+      e1 : ledger-of (after-life choices now s) ≡ past-life choices now (ledger-of s)
+      e1 = leave-erase kind s k (life-pass choices now s) (life-from s) ∙ ap (λ (is : List (Item Key Value)). remove is (ledger-of s)) (life-erase s k)
 
-      pub k2 : Kept kind (after-idle choices now s)
+      pub k2 : Coherent kind (after-idle choices now s)
       k2 = leave-kept kind (after-life choices now s) k1 (idle-pass choices now (after-life choices now s))
 
-      taken2 : map item (idle-pass choices now (after-life choices now s)) ≡ by-idle choices now (past-life choices now (erase s))
+      taken2 : map as-item (idle-pass choices now (after-life choices now s)) ≡ by-idle choices now (past-life choices now (ledger-of s))
       taken2 = idle-erase (after-life choices now s) ∙ ap (by-idle choices now) e1
 
-      e2 : erase (after-idle choices now s) ≡ past-idle choices now (erase s)
+      e2 : ledger-of (after-idle choices now s) ≡ past-idle choices now (ledger-of s)
       e2 =
           leave-erase kind (after-life choices now s) k1 (idle-pass choices now (after-life choices now s)) (idle-from (after-life choices now s))
-          ∙ ap (λ (is : List (Item Key Value)). remove is (erase (after-life choices now s))) taken2
-          ∙ ap (remove (by-idle choices now (past-life choices now (erase s)))) e1
+          ∙ ap (λ (is : List (Item Key Value)). remove is (ledger-of (after-life choices now s))) taken2
+          ∙ ap (remove (by-idle choices now (past-life choices now (ledger-of s)))) e1
 
-      taken3 : map item (trim-pass choices now (after-idle choices now s)) ≡ by-trim choices now (past-idle choices now (erase s))
+      taken3 : map as-item (trim-pass choices now (after-idle choices now s)) ≡ by-trim choices now (past-idle choices now (ledger-of s))
       taken3 = trim-erase (after-idle choices now s) ∙ ap (by-trim choices now) e2
 
-      pub passed-kept : Kept kind (passed choices now s)
+      pub passed-kept : Coherent kind (passed choices now s)
       unfolding passed
       passed-kept = leave-kept kind (after-idle choices now s) k2 (trim-pass choices now (after-idle choices now s))
 
-      pub told-same : passes-told choices now s ≡ clearing choices now (erase s)
+      pub told-same : passes-told choices now s ≡ clearing choices now (ledger-of s)
       unfolding passes-told clearing
       told-same =
-          let a : told LivedOut (life-pass choices now s) ≡ telling LivedOut (by-life choices now (erase s)) = told-erase LivedOut (life-pass choices now s) ∙ ap (telling LivedOut) (life-erase s k) in
-          let b : told IdledOut (idle-pass choices now (after-life choices now s)) ≡ telling IdledOut (by-idle choices now (past-life choices now (erase s))) = told-erase IdledOut (idle-pass choices now (after-life choices now s)) ∙ ap (telling IdledOut) taken2 in
-          let c : told Trimmed (trim-pass choices now (after-idle choices now s)) ≡ telling Trimmed (by-trim choices now (past-idle choices now (erase s))) = told-erase Trimmed (trim-pass choices now (after-idle choices now s)) ∙ ap (telling Trimmed) taken3 in
+          let a : told LivedOut (life-pass choices now s) ≡ telling LivedOut (by-life choices now (ledger-of s)) = told-erase LivedOut (life-pass choices now s) ∙ ap (telling LivedOut) (life-erase s k) in
+          let b : told IdledOut (idle-pass choices now (after-life choices now s)) ≡ telling IdledOut (by-idle choices now (past-life choices now (ledger-of s))) = told-erase IdledOut (idle-pass choices now (after-life choices now s)) ∙ ap (telling IdledOut) taken2 in
+          let c : told Trimmed (trim-pass choices now (after-idle choices now s)) ≡ telling Trimmed (by-trim choices now (past-idle choices now (ledger-of s))) = told-erase Trimmed (trim-pass choices now (after-idle choices now s)) ∙ ap (telling Trimmed) taken3 in
           λ i. a i ++ (b i ++ c i)

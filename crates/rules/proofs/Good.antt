@@ -28,15 +28,16 @@ use Rattle.rules.specs.Calls.{Outcome, held, got, asked, struck, inserted, cou
 use Rattle.rules.specs.Items.{Item, Ledger, telling, clearing, sweep-items}
 use Rattle.rules.specs.Ledger.{is-outvoted, item-of, is-hit, takes-in, counting, settled, outvoted, upon-get, upon-insert, upon-invalidate, entered}
 use Rattle.rules.specs.Account.{times, Running, Hits-right, Insert-right, Invalidate-right, Right}
-use Rattle.rules.proofs.Erasing.{item, erase, Kept, map-again, passed-kept, told-same}
+use Rattle.rules.specs.Agreement.{as-item, ledger-of, Coherent}
+use Rattle.rules.proofs.Erasing.{map-again, passed-kept, told-same}
 use Rattle.rules.proofs.Settling.{told-by-append, told-no, settled-erase}
 use Rattle.rules.proofs.Steps.{Got, got-right, Asked, asked-right, Gone, struck-right, Came, inserted-right}
 
 module _ {Key Value : Type 0} (kind : Kind Key Value) (choices : Choices) (sizes : Sizes) (free : ℕ) where
   pub record Good (s : State Key Value) (c : Call Key Value) (o : Outcome Key Value) : Type 0 where
-    pub right : Right kind choices sizes (erase s) c (o .answer) (o .departures)
-    pub follows : erase (o .state) ≡ entered kind choices sizes (erase s) c (o .answer) (o .departures)
-    pub keeps : Kept kind (o .state)
+    pub right : Right kind choices sizes (ledger-of s) c (o .answer) (o .departures)
+    pub follows : ledger-of (o .state) ≡ entered kind choices sizes (ledger-of s) c (o .answer) (o .departures)
+    pub keeps : Coherent kind (o .state)
 
   passes-outvote : (now : ℕ) (s : State Key Value) → outvoted (passes-told choices now s) ≡ []
   unfolding passes-told
@@ -50,7 +51,7 @@ module _ {Key Value : Type 0} (kind : Kind Key Value) (choices : Choices) (sizes
   unfolding passed leave
   passed-next now s = refl
 
-  module _ (s : State Key Value) (ok : Kept kind s) where
+  module _ (s : State Key Value) (ok : Coherent kind s) where
     get-good : (k : Key) (now : ℕ) → Good s (Get k now) (step kind choices sizes free s (Get k now))
     unfolding step Right entered
     get-good k now =
@@ -63,7 +64,7 @@ module _ {Key Value : Type 0} (kind : Kind Key Value) (choices : Choices) (sizes
               let E = sym (settled-erase kind choices now s ok (o .departures) [] (g .tells ∙ sym (append-nil ds)) refl) in
               rw t (record {
                 right = rw t (record {
-                  tells = g .tells ∙ told-same kind choices now s ok ∙ sym (append-nil (clearing choices now (erase s)));
+                  tells = g .tells ∙ told-same kind choices now s ok ∙ sym (append-nil (clearing choices now (ledger-of s)));
                   hits = subst (λ (l : Ledger Key Value). Hits-right kind choices l k now (o .answer)) E (g .right);
                 });
                 follows = rw t (g .follows ∙ ap (λ (l : Ledger Key Value). upon-get now (is-hit (o .answer)) (item-of kind k l) (counting kind k l)) E);
@@ -84,12 +85,12 @@ module _ {Key Value : Type 0} (kind : Kind Key Value) (choices : Choices) (sizes
               let E = sym (settled-erase kind choices now s ok (o .departures) [] (g .tells ∙ sym (append-nil ds)) refl) in
               rw t (record {
                 right = rw t (record {
-                  tells = g .tells ∙ told-same kind choices now s ok ∙ sym (append-nil (clearing choices now (erase s)));
+                  tells = g .tells ∙ told-same kind choices now s ok ∙ sym (append-nil (clearing choices now (ledger-of s)));
                   says-yes = subst (λ (l : Ledger Key Value). (i : Item Key Value) → Running kind choices l k now i → o .answer ≡ Yes) E (g .says-yes);
                   says-no = subst (λ (l : Ledger Key Value). ((i : Item Key Value) → Running kind choices l k now i → ⊥) → o .answer ≡ No) E (g .says-no);
                 });
-                follows = rw t (ap erase (g .stays) ∙ E);
-                keeps = subst (λ (q : State Key Value). Kept kind q) (sym (g .stays)) (passed-kept kind choices now s ok);
+                follows = rw t (ap ledger-of (g .stays) ∙ E);
+                keeps = subst (λ (q : State Key Value). Coherent kind q) (sym (g .stays)) (passed-kept kind choices now s ok);
               })
           | inr t ↦ rw t (record { right = rw t (record { answer = refl; nobody = refl }); follows = rw t; keeps = ok })
         ]
@@ -139,16 +140,16 @@ module _ {Key Value : Type 0} (kind : Kind Key Value) (choices : Choices) (sizes
                 follows = rw t
                     (g .follows
                     ∙ ap (λ (l : Ledger Key Value). upon-insert kind choices sizes k v now (takes-in (o .answer)) (outvoted (g .rest)) (item-of kind k l) l) E
-                    ∙ ap (λ (m : List ℕ). upon-insert kind choices sizes k v now (takes-in (o .answer)) m (item-of kind k (settled (o .departures) (erase s))) (settled (o .departures) (erase s))) n);
+                    ∙ ap (λ (m : List ℕ). upon-insert kind choices sizes k v now (takes-in (o .answer)) m (item-of kind k (settled (o .departures) (ledger-of s))) (settled (o .departures) (ledger-of s))) n);
                 keeps = g .keeps;
               })
           | inr t ↦ rw t (record { right = rw t (record { answer = refl; nobody = refl }); follows = rw t; keeps = ok })
         ]
 
     sweep-good : Good s InvalidateAll (step kind choices sizes free s InvalidateAll)
-    unfolding step Right entered erase sweep-items
+    unfolding step Right entered ledger-of sweep-items
     sweep-good = record {
-      right = (refl, sym (map-again (λ (i : Item Key Value). record { ticket = i .ticket; cause = SweptOut }) item (s .touch)));
+      right = (refl, sym (map-again (λ (i : Item Key Value). record { ticket = i .ticket; cause = SweptOut }) as-item (s .touch)));
       follows = refl;
       keeps = record {
         cells = λ n. omega arith;

@@ -29,7 +29,8 @@ use Rattle.rules.specs.Calls.{Outcome, with-sketch, held, got, asked, struck, 
 use Rattle.rules.specs.Ledger.{handing}
 use Rattle.rules.specs.Account.{times, told-tickets}
 use Rattle.rules.proofs.Fronts.{tally-append, tally-without, tally-mono, in-tally, tally-in, first-in, same-one, in-without, in-freeing, in-looked}
-use Rattle.rules.proofs.Erasing.{Kept, From, in-stays, leave-kept, life-from, idle-from, trim-from, k1, k2, passed-kept}
+use Rattle.rules.specs.Agreement.{Coherent}
+use Rattle.rules.proofs.Erasing.{From, in-stays, leave-kept, life-from, idle-from, trim-from, k1, k2, passed-kept}
 use Rattle.rules.proofs.Voting.{freeing-take}
 use Rattle.rules.proofs.Hitting.{tally-map}
 
@@ -134,7 +135,7 @@ module _ {Key Value : Type 0} where
       tally-map (λ (d : Departure). d .ticket) (λ x. eqb x n) (told why es)
       ∙ tally-map (λ (e : Entry Key Value). record { ticket = e .ticket; cause = why }) (λ (d : Departure). eqb (d .ticket) n) es
 
-  module _ (kind : Kind Key Value) (s : State Key Value) (ok : Kept kind s) where
+  module _ (kind : Kind Key Value) (s : State Key Value) (ok : Coherent kind s) where
     -- some that leave
     pub leave-moves : (why : Cause) (es : List (Entry Key Value)) → From es s → ((n : ℕ) → tally (bears n) es ≤ 1)
         → (n : ℕ) → times n (told-tickets (told why es)) + tally (bears n) (leave es s .touch) ≡ tally (bears n) (s .touch)
@@ -184,23 +185,23 @@ module _ {Key Value : Type 0} where
   -- ---- the passes
 
   module _ (kind : Kind Key Value) (choices : Choices) (now : ℕ) where
-    life-once : (s : State Key Value) → Kept kind s → (n : ℕ) → tally (bears n) (life-pass choices now s) ≤ 1
+    life-once : (s : State Key Value) → Coherent kind s → (n : ℕ) → tally (bears n) (life-pass choices now s) ≤ 1
     unfolding life-pass
     life-once s ok n =
         omega (arith, tally-take (bears n) 100 (passing (lived-out choices now) (written s)), tally-passing (bears n) (lived-out choices now) (written s), written-once kind s ok n)
 
-    idle-once : (s : State Key Value) → Kept kind s → (n : ℕ) → tally (bears n) (idle-pass choices now s) ≤ 1
+    idle-once : (s : State Key Value) → Coherent kind s → (n : ℕ) → tally (bears n) (idle-pass choices now s) ≤ 1
     unfolding idle-pass
     idle-once s ok n =
         omega (arith, tally-take (bears n) 100 (passing (idled-out choices now) (s .touch)), tally-passing (bears n) (idled-out choices now) (s .touch), ok .tickets n)
 
-    trim-once : (s : State Key Value) → Kept kind s → (n : ℕ) → tally (bears n) (trim-pass choices now s) ≤ 1
+    trim-once : (s : State Key Value) → Coherent kind s → (n : ℕ) → tally (bears n) (trim-pass choices now s) ≤ 1
     unfolding trim-pass
     trim-once s ok n =
         let w : Entry Key Value → ℕ = λ x. x .weight in
         omega (arith, tally-take (bears n) 100 (freeing (λ (x : Entry Key Value). x .weight) (excess (choices .capacity) (s .recorded)) (s .touch)), tally-freeing (bears n) (λ (x : Entry Key Value). x .weight) (excess (choices .capacity) (s .recorded)) (s .touch), ok .tickets n)
 
-    pub passes-moves : (s : State Key Value) → Kept kind s → (n : ℕ) → times n (told-tickets (passes-told choices now s)) + tally (bears n) (passed choices now s .touch) ≡ tally (bears n) (s .touch)
+    pub passes-moves : (s : State Key Value) → Coherent kind s → (n : ℕ) → times n (told-tickets (passes-told choices now s)) + tally (bears n) (passed choices now s .touch) ≡ tally (bears n) (s .touch)
     unfolding passes-told passed
     passes-moves s ok n =
         let a1 = after-life choices now s in

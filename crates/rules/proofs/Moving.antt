@@ -21,7 +21,8 @@ use Rattle.rules.specs.Passes.{cells-of, written}
 use Rattle.rules.specs.Calls.{to-back, touched-at, rewritten, touch-entry, replace-entry, admit, newcomer, with-sketch, held}
 use Rattle.rules.specs.Items.{Item, Ledger, last, touch-item, replace-item, add-item, sketching}
 use Rattle.rules.proofs.Fronts.{none-some, some-one, tally-append, tally-without, tally-less, tally-mono, in-tally, tally-in, first-in, first-none, in-first, in-without, in-append, in-looked, seen, map-without}
-use Rattle.rules.proofs.Erasing.{item, ticket-of, erase, ledger-same, Kept, same-ids, in-stays, among-without}
+use Rattle.rules.specs.Agreement.{as-item, ticket-of, ledger-of, Coherent}
+use Rattle.rules.proofs.Erasing.{ledger-same, same-ids, in-stays, among-without}
 
 module _ {A : Type 0} where
   pub in-left : (a : A) (xs ys : List A) → In a xs → In a (xs ++ ys)
@@ -126,7 +127,7 @@ module _ {Key Value : Type 0} where
   abbrev cell-of : Entry Key Value → ℕ
   cell-of e = e .cell
 
-  module _ (kind : Kind Key Value) (s : State Key Value) (ok : Kept kind s) (e e′ : Entry Key Value) (here : In e (s .touch)) (cell : e′ .cell ≡ e .cell) (ticket : e′ .ticket ≡ e .ticket) where
+  module _ (kind : Kind Key Value) (s : State Key Value) (ok : Coherent kind s) (e e′ : Entry Key Value) (here : In e (s .touch)) (cell : e′ .cell ≡ e .cell) (ticket : e′ .ticket ≡ e .ticket) where
     abbrev leaves : Entry Key Value → Bool
     leaves x = eqb (x .cell) (e′ .cell)
 
@@ -134,11 +135,11 @@ module _ {Key Value : Type 0} where
     e-leaves = eq-eqb (e .cell) (e′ .cell) (sym cell)
 
     -- the touch order
-    pub back-erase : map item (to-back e′ (s .touch)) ≡ last (item e′) (map item (s .touch))
+    pub back-erase : map as-item (to-back e′ (s .touch)) ≡ last (as-item e′) (map as-item (s .touch))
     back-erase =
-        map-append item (without leaves (s .touch)) (e′ ∷ [])
-        ∙ ap (λ (l : List (Item Key Value)). l ++ (item e′ ∷ []))
-        (map-without item leaves (λ (i : Item Key Value). eqb (i .ticket) (e′ .ticket)) (s .touch)
+        map-append as-item (without leaves (s .touch)) (e′ ∷ [])
+        ∙ ap (λ (l : List (Item Key Value)). l ++ (as-item e′ ∷ []))
+        (map-without as-item leaves (λ (i : Item Key Value). eqb (i .ticket) (e′ .ticket)) (s .touch)
         (λ x j. ap (λ n. eqb (x .cell) n) cell ∙ same-ids kind s ok x e j here ∙ ap (λ n. eqb (x .ticket) n) (sym ticket)))
 
     -- a cell finds the same ticket
@@ -210,7 +211,7 @@ module _ {Key Value : Type 0} where
           ]
 
       pub moved-kept : (s′ : State Key Value) → s′ .touch ≡ to-back e′ (s .touch) → s′ .next ≡ s .next
-          → ((n : ℕ) → among (s′ .write) n ≡ true → (among (s .write) n ≡ true) ⊎ (n ≡ e .cell)) → ((n : ℕ) → tally (λ c. eqb c n) (s′ .write) ≤ 1) → Kept kind s′
+          → ((n : ℕ) → among (s′ .write) n ≡ true → (among (s .write) n ≡ true) ⊎ (n ≡ e .cell)) → ((n : ℕ) → tally (λ c. eqb c n) (s′ .write) ≤ 1) → Coherent kind s′
       moved-kept s′ t m w u = record {
         once = u;
         cells = λ n. rw t (omega (arith, ok .cells n, counts (λ (x : Entry Key Value). eqb (x .cell) n) (ap (λ c. eqb c n) cell)));
@@ -230,22 +231,22 @@ module _ {Key Value : Type 0} where
         ];
       }
 
-  module _ (kind : Kind Key Value) (s : State Key Value) (ok : Kept kind s) (e : Entry Key Value) (here : In e (s .touch)) where
-    pub touch-erase : (now : ℕ) → erase (touch-entry now e s) ≡ touch-item now (item e) (erase s)
-    unfolding erase touch-entry touch-item
+  module _ (kind : Kind Key Value) (s : State Key Value) (ok : Coherent kind s) (e : Entry Key Value) (here : In e (s .touch)) where
+    pub touch-erase : (now : ℕ) → ledger-of (touch-entry now e s) ≡ touch-item now (as-item e) (ledger-of s)
+    unfolding ledger-of touch-entry touch-item
     touch-erase now =
         ledger-same (back-erase kind s ok e (touched-at now e) here refl refl) (order-same kind s ok e (touched-at now e) here refl refl (s .write)) refl refl refl refl
 
-    pub touch-kept : (now : ℕ) → Kept kind (touch-entry now e s)
+    pub touch-kept : (now : ℕ) → Coherent kind (touch-entry now e s)
     unfolding touch-entry
     touch-kept now = moved-kept kind s ok e (touched-at now e) here refl refl refl refl (touch-entry now e s) refl refl (λ n a. inl a) (ok .once)
 
-    pub replace-erase : (life : Option ℕ) (v : Value) (w now : ℕ) → erase (replace-entry life v w now e s) ≡ replace-item life v w now (item e) (erase s)
-    unfolding erase replace-entry replace-item
+    pub replace-erase : (life : Option ℕ) (v : Value) (w now : ℕ) → ledger-of (replace-entry life v w now e s) ≡ replace-item life v w now (as-item e) (ledger-of s)
+    unfolding ledger-of replace-entry replace-item
     replace-erase life v w now =
         ledger-same (back-erase kind s ok e (rewritten v w now e) here refl refl) (rewritten-order kind s ok e (rewritten v w now e) here refl refl life) refl refl refl refl
 
-    pub replace-kept : (life : Option ℕ) (v : Value) (w now : ℕ) → Kept kind (replace-entry life v w now e s)
+    pub replace-kept : (life : Option ℕ) (v : Value) (w now : ℕ) → Coherent kind (replace-entry life v w now e s)
     unfolding replace-entry
     replace-kept life v w now = moved-kept kind s ok e (rewritten v w now e) here refl refl refl refl (replace-entry life v w now e s) refl refl (listed life) (once life)
       where
@@ -276,7 +277,7 @@ module _ {Key Value : Type 0} where
 
   -- ---- a newcomer
 
-  module _ (kind : Kind Key Value) (law : Lawful kind) (s : State Key Value) (ok : Kept kind s) (free : ℕ) (k : Key) (v : Value) (now : ℕ)
+  module _ (kind : Kind Key Value) (law : Lawful kind) (s : State Key Value) (ok : Coherent kind s) (free : ℕ) (k : Key) (v : Value) (now : ℕ)
       (alone : tally (λ (x : Entry Key Value). eqb (x .cell) free) (s .touch) ≡ 0) where
     abbrev new : Entry Key Value
     new = newcomer kind free k v now (s .next)
@@ -301,9 +302,9 @@ module _ {Key Value : Type 0} where
             first-past (λ (x : Entry Key Value). eqb (x .cell) free) (s .touch) (new ∷ []) (tally-none (λ (x : Entry Key Value). eqb (x .cell) free) (s .touch) alone) ∙ rw (eq-eqb free free refl) in
             rw is
 
-    pub admit-erase : (life : Option ℕ) → erase (admit life new s) ≡ add-item life k v (kind .weighs k v) now (erase s)
-    unfolding erase admit add-item
-    admit-erase life = ledger-same (map-append item (s .touch) (new ∷ [])) (admitted-order life) refl refl refl refl
+    pub admit-erase : (life : Option ℕ) → ledger-of (admit life new s) ≡ add-item life k v (kind .weighs k v) now (ledger-of s)
+    unfolding ledger-of admit add-item
+    admit-erase life = ledger-same (map-append as-item (s .touch) (new ∷ [])) (admitted-order life) refl refl refl refl
 
     module _ (lone : held kind k s ≡ None) (room : s .next < top) where
       one-more : (p : Entry Key Value → Bool) → tally p (s .touch) ≤ 1 → (p new ≡ true → tally p (s .touch) ≡ 0) → tally p (s .touch ++ (new ∷ [])) ≤ 1
@@ -329,7 +330,7 @@ module _ {Key Value : Type 0} where
           (λ x i f. law .transitive (x .key) j k f (law .symmetric k j e)) in
           omega (arith, none, le)
 
-      pub admit-kept : (life : Option ℕ) → Kept kind (admit life new s)
+      pub admit-kept : (life : Option ℕ) → Coherent kind (admit life new s)
       unfolding admit
       admit-kept life = record {
         cells = λ n. one-more (λ (x : Entry Key Value). eqb (x .cell) n) (ok .cells n) (λ e. subst (λ (m : ℕ). tally (λ (x : Entry Key Value). eqb (x .cell) m) (s .touch) ≡ 0) (eqb-true free n e) alone);

@@ -5,6 +5,7 @@ use Prim.Native.Nat.{ℕ, suc, _+_, _<_, _≤_, _^_}
 use native.Mathlib.Omega.{arith}
 use lib.ListN.{length}
 use lib.Dec.{eqb}
+use Rattle.std.specs.declared.option.Option.the-variants.{None}
 use Rattle.rules.specs.Fronts.{tally}
 use Rattle.rules.specs.declared.choices.Choices.{Choices}
 use Rattle.rules.specs.declared.call.Call.{Call}
@@ -16,12 +17,13 @@ use Rattle.rules.specs.Calls.{Outcome}
 use Rattle.rules.specs.Runs.{Turn, Line, after, line, end, log}
 use Rattle.rules.specs.Items.{Ledger, empty, tickets-of}
 use Rattle.rules.specs.Ledger.{handing, entered, follow}
-use Rattle.rules.specs.Account.{Accounted, times, told-tickets, held-tickets, Right, Free, All-free, Account}
-use Rattle.rules.specs.Served.{Through, Served, Ran, Does}
+use Rattle.rules.specs.Account.{Accounted, times, told-tickets, all-told, all-handed, held-tickets, Right, Free, All-free, Account}
+use Rattle.rules.specs.Served.{Through, Served, Ran, Does, Went-on}
+use Rattle.rules.specs.Agreement.{Agrees}
 use Rattle.rules.proofs.Fronts.{tally-append}
 use Rattle.rules.proofs.Good.{good}
 use Rattle.rules.proofs.Moves.{bears}
-use Rattle.rules.proofs.Whole.{Stands, restand, turn-stands, ledger-on, fresh-stands, fresh-next, bears-held, in-turn-of, account}
+use Rattle.rules.proofs.Whole.{Stands, restand, turn-stands, run-stands, ledger-on, fresh-stands, fresh-next, bears-held, in-turn-of, account}
 
 module _ {Key Value : Type 0} (kind : Kind Key Value) (choices : Choices) (sizes : Sizes) where
   -- ---- one call more
@@ -47,28 +49,28 @@ module _ {Key Value : Type 0} (kind : Kind Key Value) (choices : Choices) (sizes
   log-length s [] = refl
   log-length s (u ∷ ts) = ap suc (log-length (after kind choices sizes s u) ts)
 
-  pub ran-none : Ran kind choices sizes [] fresh
+  pub ran-none : (s : State Key Value) → Ran kind choices sizes s [] s
   unfolding log end All-free
-  ran-none = record { turns = []; told = refl; ends = refl; free = tt }
+  ran-none s = record { turns = []; told = refl; ends = refl; free = tt }
 
-  pub ran-more : (lines : List (Line Key Value)) (s : State Key Value) → Ran kind choices sizes lines s → (t : Turn Key Value) → Free kind choices sizes s t
-      → Ran kind choices sizes (lines ++ (line kind choices sizes s t ∷ [])) (after kind choices sizes s t)
-  ran-more lines s r t f =
+  pub ran-more : (start : State Key Value) (lines : List (Line Key Value)) (s : State Key Value) → Ran kind choices sizes start lines s → (t : Turn Key Value) → Free kind choices sizes s t
+      → Ran kind choices sizes start (lines ++ (line kind choices sizes s t ∷ [])) (after kind choices sizes s t)
+  ran-more start lines s r t f =
       let e = r .ends in
       record {
         turns = r .turns ++ (t ∷ []);
-        told = log-more fresh (r .turns) t ∙ (λ i. r .told i ++ (line kind choices sizes (e i) t ∷ []));
-        ends = end-more fresh (r .turns) t ∙ ap (λ (z : State Key Value). after kind choices sizes z t) e;
-        free = free-more fresh (r .turns) t (r .free) (subst (λ (z : State Key Value). Free kind choices sizes z t) (sym e) f);
+        told = log-more start (r .turns) t ∙ (λ i. r .told i ++ (line kind choices sizes (e i) t ∷ []));
+        ends = end-more start (r .turns) t ∙ ap (λ (z : State Key Value). after kind choices sizes z t) e;
+        free = free-more start (r .turns) t (r .free) (subst (λ (z : State Key Value). Free kind choices sizes z t) (sym e) f);
       }
 
   -- the same from what a call promises
-  pub ran-does : (lines : List (Line Key Value)) (s : State Key Value) → Ran kind choices sizes lines s → (c : Call Key Value) (o : Outcome Key Value) → Does kind choices sizes s c o
-      → Ran kind choices sizes (lines ++ (record { call = c; answer = o .answer; departures = o .departures } ∷ [])) (o .state)
-  ran-does lines s r c o d =
+  pub ran-does : (start : State Key Value) (lines : List (Line Key Value)) (s : State Key Value) → Ran kind choices sizes start lines s → (c : Call Key Value) (o : Outcome Key Value) → Does kind choices sizes s c o
+      → Ran kind choices sizes start (lines ++ (record { call = c; answer = o .answer; departures = o .departures } ∷ [])) (o .state)
+  ran-does start lines s r c o d =
       let t : Turn Key Value = record { free = d .free; call = c } in
-      subst (λ (p : Outcome Key Value). Ran kind choices sizes (lines ++ (record { call = c; answer = p .answer; departures = p .departures } ∷ [])) (p .state)) (d .steps)
-      (ran-more lines s r t (subst (λ (p : Outcome Key Value). times (d .free) (cells-of (p .state .touch)) ≤ 1) (sym (d .steps)) (d .alone)))
+      subst (λ (p : Outcome Key Value). Ran kind choices sizes start (lines ++ (record { call = c; answer = p .answer; departures = p .departures } ∷ [])) (p .state)) (d .steps)
+      (ran-more start lines s r t (subst (λ (p : Outcome Key Value). times (d .free) (cells-of (p .state .touch)) ≤ 1) (sym (d .steps)) (d .alone)))
 
   -- ---- the theorem of a log
 
@@ -101,7 +103,7 @@ module _ {Key Value : Type 0} (kind : Kind Key Value) (choices : Choices) (sizes
         goes-through law ts s′ l′ (told ++ told-tickets (x .departures)) (handed ++ handing (x .answer)) st′ (omega (arith, one .1)) (fr .1),
       )
 
-  pub served : Lawful kind → (lines : List (Line Key Value)) (s : State Key Value) → Ran kind choices sizes lines s → length lines < 2 ^ 32 → Served kind choices sizes lines s
+  pub served : Lawful kind → (lines : List (Line Key Value)) (s : State Key Value) → Ran kind choices sizes fresh lines s → length lines < 2 ^ 32 → Served kind choices sizes lines s
   served law lines s r few =
       let n : length (r .turns) < 2 ^ 32 = omega (arith, log-length fresh (r .turns), ap length (r .told)) in
       record {
@@ -112,3 +114,49 @@ module _ {Key Value : Type 0} (kind : Kind Key Value) (choices : Choices) (sizes
             ∙ account kind choices sizes law (r .turns) n (r .free) .in-turn
             ∙ ap (λ (z : List (Line Key Value)). tickets-of (follow kind choices sizes empty z .touch)) (r .told);
       }
+
+  -- ---- going on
+
+  stands-of : (s : State Key Value) (l : Ledger Key Value) (told handed : List ℕ) → Agrees kind s l told handed → Stands kind choices sizes s l (λ n. times n told) (λ n. times n handed)
+  stands-of s l told handed a = record {
+    ok = a .coherent;
+    same = a .same;
+    sums = λ n. omega (arith, a .told-or-held n, bears-held kind choices sizes s n);
+    low = a .below;
+    one = a .once;
+  }
+
+  agrees-of : (s : State Key Value) (l : Ledger Key Value) (told handed : List ℕ) → Stands kind choices sizes s l (λ n. times n told) (λ n. times n handed) → Agrees kind s l told handed
+  agrees-of s l told handed st = record {
+    coherent = st .ok;
+    same = st .same;
+    told-or-held = λ n. omega (arith, st .sums n, bears-held kind choices sizes s n);
+    below = st .low;
+    once = st .one;
+  }
+
+  pub went-on : Lawful kind → (start : State Key Value) (l : Ledger Key Value) (told handed : List ℕ) → Agrees kind start l told handed
+      → (lines : List (Line Key Value)) (s : State Key Value) → Ran kind choices sizes start lines s → start .next + length lines < top → Went-on kind choices sizes l told handed lines s
+  went-on law start l told handed a lines s r room =
+      let st = stands-of start l told handed a in
+      let few : start .next + length (r .turns) < top = omega (arith, log-length start (r .turns), ap length (r .told)) in
+      let z = run-stands kind choices sizes law (r .turns) start l (λ n. times n told) (λ n. times n handed) st few (r .free) .0 in
+      let lines′ = log kind choices sizes start (r .turns) in
+      let s′ = end kind choices sizes start (r .turns) in
+      let l′ = follow kind choices sizes l lines′ in
+      let stands = restand kind choices sizes s′ l′ (λ n. times n told + times n (all-told lines′)) (λ n. times n handed + times n (all-handed lines′))
+      (λ n. times n (told ++ all-told lines′)) (λ n. times n (handed ++ all-handed lines′)) z
+      (λ n. sym (tally-append (λ y. eqb y n) told (all-told lines′))) (λ n. sym (tally-append (λ y. eqb y n) handed (all-handed lines′))) in
+      let all : Went-on kind choices sizes l told handed lines′ s′ = record {
+        through = goes-through law (r .turns) start l told handed st few (r .free);
+        in-turn = in-turn-of kind choices sizes s′ l′ (stands .same);
+        agrees = agrees-of s′ l′ (told ++ all-told lines′) (handed ++ all-handed lines′) stands;
+      } in
+      subst (λ (x : List (Line Key Value)). Went-on kind choices sizes l told handed x s) (r .told) (subst (Went-on kind choices sizes l told handed lines′) (r .ends) all)
+
+-- a fresh cache agrees with the empty ledger, whatever was chosen and lent
+pub fresh-agrees : {Key Value : Type 0} (kind : Kind Key Value) → Agrees kind fresh empty [] []
+fresh-agrees kind =
+    let choices : Choices = record { capacity = None; life = None; idle = None } in
+    let sizes : Sizes = record { cells = 0; words = 0 } in
+    agrees-of kind choices sizes fresh empty [] [] (fresh-stands kind choices sizes)

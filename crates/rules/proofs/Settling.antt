@@ -20,7 +20,8 @@ use Rattle.rules.specs.Passes.{leave, told, life-pass, idle-pass, trim-pass, a
 use Rattle.rules.specs.Items.{Item, Ledger, tickets-of, weight-of, remove}
 use Rattle.rules.specs.Ledger.{by-pass, told-by, items-with, settled}
 use Rattle.rules.proofs.Fronts.{in-append, in-without, looked-again}
-use Rattle.rules.proofs.Erasing.{item, ticket-of, erase, ledger-same, Kept, From, leave-erase, life-from, idle-from, trim-from, k1, k2}
+use Rattle.rules.specs.Agreement.{as-item, ticket-of, ledger-of, Coherent}
+use Rattle.rules.proofs.Erasing.{ledger-same, From, leave-erase, life-from, idle-from, trim-from, k1, k2}
 
 module _ {A : Type 0} where
   without-twice : (p q r : A → Bool) (xs : List A) → ((a : A) → r a ≡ cond (p a) true (q a)) → without r xs ≡ without q (without p xs)
@@ -74,7 +75,7 @@ module _ {Key Value : Type 0} where
   unfolding leave
   leave-from s es e i = in-without (λ (x : Entry Key Value). among (cells-of es) (x .cell)) e (s .touch) i
 
-  module _ (kind : Kind Key Value) (choices : Choices) (now : ℕ) (s : State Key Value) (k : Kept kind s) where
+  module _ (kind : Kind Key Value) (choices : Choices) (now : ℕ) (s : State Key Value) (k : Coherent kind s) where
     abbrev A : List (Entry Key Value)
     A = life-pass choices now s
 
@@ -103,21 +104,21 @@ module _ {Key Value : Type 0} where
         ∙ ap (λ (l : List ℕ). map ticket-of A ++ l) (sym (map-append ticket-of B C))
         ∙ sym (map-append ticket-of A (B ++ C))
 
-    removed : remove (map item (A ++ (B ++ C))) (erase s) ≡ erase (passed choices now s)
+    removed : remove (map as-item (A ++ (B ++ C))) (ledger-of s) ≡ ledger-of (passed choices now s)
     unfolding passed
     removed =
-        ap (λ (is : List (Item Key Value)). remove is (erase s)) (map-append item A (B ++ C) ∙ ap (λ (is : List (Item Key Value)). map item A ++ is) (map-append item B C))
-        ∙ remove-append (map item A) (map item B ++ map item C) (erase s)
-        ∙ ap (remove (map item B ++ map item C)) (sym (leave-erase kind s k A (life-from kind choices now s)))
-        ∙ remove-append (map item B) (map item C) (erase (after-life choices now s))
-        ∙ ap (remove (map item C)) (sym (leave-erase kind (after-life choices now s) (k1 kind choices now s k) B (idle-from kind choices now (after-life choices now s))))
+        ap (λ (is : List (Item Key Value)). remove is (ledger-of s)) (map-append as-item A (B ++ C) ∙ ap (λ (is : List (Item Key Value)). map as-item A ++ is) (map-append as-item B C))
+        ∙ remove-append (map as-item A) (map as-item B ++ map as-item C) (ledger-of s)
+        ∙ ap (remove (map as-item B ++ map as-item C)) (sym (leave-erase kind s k A (life-from kind choices now s)))
+        ∙ remove-append (map as-item B) (map as-item C) (ledger-of (after-life choices now s))
+        ∙ ap (remove (map as-item C)) (sym (leave-erase kind (after-life choices now s) (k1 kind choices now s k) B (idle-from kind choices now (after-life choices now s))))
         ∙ sym (leave-erase kind (after-idle choices now s) (k2 kind choices now s k) C (trim-from kind choices now (after-idle choices now s)))
 
-    pub settled-erase : (ds rest : List Departure) → ds ≡ passes-told choices now s ++ rest → told-by by-pass rest ≡ [] → settled ds (erase s) ≡ erase (passed choices now s)
-    unfolding settled erase
+    pub settled-erase : (ds rest : List Departure) → ds ≡ passes-told choices now s ++ rest → told-by by-pass rest ≡ [] → settled ds (ledger-of s) ≡ ledger-of (passed choices now s)
+    unfolding settled ledger-of
     settled-erase ds rest e q =
         let n : told-by by-pass ds ≡ map ticket-of (A ++ (B ++ C)) =
         ap (told-by by-pass) e ∙ told-by-append by-pass (passes-told choices now s) rest ∙ (λ i. tickets-told i ++ q i) ∙ append-nil (map ticket-of (A ++ (B ++ C))) in
-        ap (λ (ts : List ℕ). remove (items-with ts (erase s)) (erase s)) n
-        ∙ ap (λ (is : List (Item Key Value)). remove is (erase s)) (looked-again item (λ (i : Item Key Value). i .ticket) (s .touch) (A ++ (B ++ C)) (k .tickets) all-from)
+        ap (λ (ts : List ℕ). remove (items-with ts (ledger-of s)) (ledger-of s)) n
+        ∙ ap (λ (is : List (Item Key Value)). remove is (ledger-of s)) (looked-again as-item (λ (i : Item Key Value). i .ticket) (s .touch) (A ++ (B ++ C)) (k .tickets) all-from)
         ∙ removed

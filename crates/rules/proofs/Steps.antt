@@ -30,7 +30,8 @@ use Rattle.rules.specs.Items.{Item, Ledger, lapsed, telling, touch-item, repla
 use Rattle.rules.specs.Ledger.{by-pass, told-by, outvoted, item-of, fitting, is-hit, takes-in, counting, opened-after, newly, upon-get, upon-insert, upon-invalidate}
 use Rattle.rules.specs.Account.{times, Running, Hits-right, Insert-right, Invalidate-right}
 use Rattle.rules.proofs.Fronts.{looked-again, tally-append, tally-without, first-in, first-none, in-freeing, seen, map-first}
-use Rattle.rules.proofs.Erasing.{item, erase, Kept, map-again, leave-erase, leave-kept}
+use Rattle.rules.specs.Agreement.{as-item, ledger-of, Coherent}
+use Rattle.rules.proofs.Erasing.{map-again, leave-erase, leave-kept}
 use Rattle.rules.proofs.Settling.{told-no}
 use Rattle.rules.proofs.Moving.{tally-none, touch-erase, touch-kept, replace-erase, replace-kept, admit-erase, admit-kept}
 use Rattle.rules.proofs.Voting.{freeing-take, wins, leaving, run-of, run-erase, verdict-is, right-fits, right-full, right-wins, right-wins-full, right-loses}
@@ -41,29 +42,29 @@ outvoted-told [] = refl
 outvoted-told (e ∷ es) = ap (λ (l : List ℕ). e .ticket ∷ l) (outvoted-told es)
 
 module _ {Key Value : Type 0} (kind : Kind Key Value) where
-  pub sketch-kept : (p : State Key Value) → Kept kind p → (k : Sketch) → Kept kind (with-sketch k p)
+  pub sketch-kept : (p : State Key Value) → Coherent kind p → (k : Sketch) → Coherent kind (with-sketch k p)
   sketch-kept p ok k = record { cells = ok .cells; tickets = ok .tickets; keys = ok .keys; hashes = ok .hashes; below = ok .below; listed = ok .listed; once = ok .once }
 
 module _ {Key Value : Type 0} (kind : Kind Key Value) (choices : Choices) (sizes : Sizes) (free : ℕ) where
   abbrev count-key : Key → State Key Value → State Key Value
   count-key k p = counted kind k p
 
-  counted-erase : (k : Key) (p : State Key Value) → erase (count-key k p) ≡ counting kind k (erase p)
-  unfolding erase
+  counted-erase : (k : Key) (p : State Key Value) → ledger-of (count-key k p) ≡ counting kind k (ledger-of p)
+  unfolding ledger-of
   counted-erase k p = refl
 
-  opened-erase : (p : State Key Value) → erase (opened-sketch kind choices sizes p) ≡ opened-after kind choices sizes (erase p)
-  unfolding erase
+  opened-erase : (p : State Key Value) → ledger-of (opened-sketch kind choices sizes p) ≡ opened-after kind choices sizes (ledger-of p)
+  unfolding ledger-of
   opened-erase p = refl
 
-  module _ (p : State Key Value) (ok : Kept kind p) (ds : List Departure) where
-    find-erase : (k : Key) → item-of kind k (erase p) ≡ seen item (held kind k p)
-    unfolding erase
-    find-erase k = map-first item (λ (i : Item Key Value). kind .alike (i .key) k) (p .touch)
+  module _ (p : State Key Value) (ok : Coherent kind p) (ds : List Departure) where
+    find-erase : (k : Key) → item-of kind k (ledger-of p) ≡ seen as-item (held kind k p)
+    unfolding ledger-of
+    find-erase k = map-first as-item (λ (i : Item Key Value). kind .alike (i .key) k) (p .touch)
 
-    lone : (k : Key) → tally (λ (i : Item Key Value). kind .alike (i .key) k) (erase p .touch) ≤ 1
-    unfolding erase
-    lone k = subst (λ (n : ℕ). n ≤ 1) (sym (tally-map item (λ (i : Item Key Value). kind .alike (i .key) k) (p .touch))) (ok .keys k)
+    lone : (k : Key) → tally (λ (i : Item Key Value). kind .alike (i .key) k) (ledger-of p .touch) ≤ 1
+    unfolding ledger-of
+    lone k = subst (λ (n : ℕ). n ≤ 1) (sym (tally-map as-item (λ (i : Item Key Value). kind .alike (i .key) k) (p .touch))) (ok .keys k)
 
     there : (k : Key) (e : Entry Key Value) → held kind k p ≡ Some e → In e (p .touch)
     there k e h = first-in (λ (x : Entry Key Value). kind .alike (x .key) k) e (p .touch) h .0
@@ -71,9 +72,9 @@ module _ {Key Value : Type 0} (kind : Kind Key Value) (choices : Choices) (sizes
     -- ---- get
 
     pub record Got (k : Key) (now : ℕ) (o : Outcome Key Value) : Type 0 where
-      pub right : Hits-right kind choices (erase p) k now (o .answer)
-      pub follows : erase (o .state) ≡ upon-get now (is-hit (o .answer)) (item-of kind k (erase p)) (counting kind k (erase p))
-      pub keeps : Kept kind (o .state)
+      pub right : Hits-right kind choices (ledger-of p) k now (o .answer)
+      pub follows : ledger-of (o .state) ≡ upon-get now (is-hit (o .answer)) (item-of kind k (ledger-of p)) (counting kind k (ledger-of p))
+      pub keeps : Coherent kind (o .state)
       pub tells : o .departures ≡ ds
 
     pub got-right : (k : Key) (now : ℕ) → Got k now (got choices now (held kind k p) (count-key k p) ds)
@@ -81,28 +82,28 @@ module _ {Key Value : Type 0} (kind : Kind Key Value) (choices : Choices) (sizes
       where
         go : (x : Option (Entry Key Value)) → held kind k p ≡ x → Got k now (got choices now x (count-key k p) ds)
         go None h =
-            let f : item-of kind k (erase p) ≡ None = find-erase k ∙ ap (seen item) h in
+            let f : item-of kind k (ledger-of p) ≡ None = find-erase k ∙ ap (seen as-item) h in
             record {
-              right = misses kind choices (erase p) lone k now (none-running kind choices (erase p) lone k now f);
-              follows = counted-erase k p ∙ sym (ap (λ (o : Option (Item Key Value)). upon-get now false o (counting kind k (erase p))) f);
+              right = misses kind choices (ledger-of p) lone k now (none-running kind choices (ledger-of p) lone k now f);
+              follows = counted-erase k p ∙ sym (ap (λ (o : Option (Item Key Value)). upon-get now false o (counting kind k (ledger-of p))) f);
               keeps = sketch-kept kind p ok (count-key k p .sketch);
               tells = refl;
             }
         go (Some e) h =
-            let f : item-of kind k (erase p) ≡ Some (item e) = find-erase k ∙ ap (seen item) h in
+            let f : item-of kind k (ledger-of p) ≡ Some (as-item e) = find-erase k ∙ ap (seen as-item) h in
             elim (cases-bool (expired choices now e)) [
               | inl t ↦ rw t (record {
-                right = misses kind choices (erase p) lone k now (lapsed-running kind choices (erase p) lone k now (item e) f t);
-                follows = counted-erase k p ∙ sym (ap (λ (o : Option (Item Key Value)). upon-get now false o (counting kind k (erase p))) f);
+                right = misses kind choices (ledger-of p) lone k now (lapsed-running kind choices (ledger-of p) lone k now (as-item e) f t);
+                follows = counted-erase k p ∙ sym (ap (λ (o : Option (Item Key Value)). upon-get now false o (counting kind k (ledger-of p))) f);
                 keeps = sketch-kept kind p ok (count-key k p .sketch);
                 tells = refl;
               })
               | inr t ↦ rw t (record {
-                right = hits kind choices (erase p) lone k now (item e) f t;
+                right = hits kind choices (ledger-of p) lone k now (as-item e) f t;
                 follows =
                     touch-erase kind (count-key k p) (sketch-kept kind p ok (count-key k p .sketch)) e (there k e h) now
-                    ∙ ap (touch-item now (item e)) (counted-erase k p)
-                    ∙ sym (ap (λ (o : Option (Item Key Value)). upon-get now true o (counting kind k (erase p))) f);
+                    ∙ ap (touch-item now (as-item e)) (counted-erase k p)
+                    ∙ sym (ap (λ (o : Option (Item Key Value)). upon-get now true o (counting kind k (ledger-of p))) f);
                 keeps = touch-kept kind (count-key k p) (sketch-kept kind p ok (count-key k p .sketch)) e (there k e h) now;
                 tells = refl;
               })
@@ -111,8 +112,8 @@ module _ {Key Value : Type 0} (kind : Kind Key Value) (choices : Choices) (sizes
     -- ---- contains_key
 
     pub record Asked (k : Key) (now : ℕ) (o : Outcome Key Value) : Type 0 where
-      pub says-yes : (i : Item Key Value) → Running kind choices (erase p) k now i → o .answer ≡ Yes
-      pub says-no : ((i : Item Key Value) → Running kind choices (erase p) k now i → ⊥) → o .answer ≡ No
+      pub says-yes : (i : Item Key Value) → Running kind choices (ledger-of p) k now i → o .answer ≡ Yes
+      pub says-no : ((i : Item Key Value) → Running kind choices (ledger-of p) k now i → ⊥) → o .answer ≡ No
       pub stays : o .state ≡ p
       pub tells : o .departures ≡ ds
 
@@ -121,13 +122,13 @@ module _ {Key Value : Type 0} (kind : Kind Key Value) (choices : Choices) (sizes
       where
         go : (x : Option (Entry Key Value)) → held kind k p ≡ x → Asked k now (asked choices now x p ds)
         go None h =
-            let f : item-of kind k (erase p) ≡ None = find-erase k ∙ ap (seen item) h in
-            record { says-yes = λ i r. absurd (none-running kind choices (erase p) lone k now f i r); says-no = λ g. refl; stays = refl; tells = refl }
+            let f : item-of kind k (ledger-of p) ≡ None = find-erase k ∙ ap (seen as-item) h in
+            record { says-yes = λ i r. absurd (none-running kind choices (ledger-of p) lone k now f i r); says-no = λ g. refl; stays = refl; tells = refl }
         go (Some e) h =
-            let f : item-of kind k (erase p) ≡ Some (item e) = find-erase k ∙ ap (seen item) h in
+            let f : item-of kind k (ledger-of p) ≡ Some (as-item e) = find-erase k ∙ ap (seen as-item) h in
             elim (cases-bool (expired choices now e)) [
-              | inl t ↦ rw t (record { says-yes = λ i r. absurd (lapsed-running kind choices (erase p) lone k now (item e) f t i r); says-no = λ g. refl; stays = refl; tells = refl })
-              | inr t ↦ rw t (record { says-yes = λ i r. refl; says-no = λ g. absurd (g (item e) (is-running kind choices (erase p) lone k now (item e) f t)); stays = refl; tells = refl })
+              | inl t ↦ rw t (record { says-yes = λ i r. absurd (lapsed-running kind choices (ledger-of p) lone k now (as-item e) f t i r); says-no = λ g. refl; stays = refl; tells = refl })
+              | inr t ↦ rw t (record { says-yes = λ i r. refl; says-no = λ g. absurd (g (as-item e) (is-running kind choices (ledger-of p) lone k now (as-item e) f t)); stays = refl; tells = refl })
             ]
 
     -- ---- invalidate
@@ -136,26 +137,26 @@ module _ {Key Value : Type 0} (kind : Kind Key Value) (choices : Choices) (sizes
       pub rest : List Departure
       pub tells : o .departures ≡ ds ++ rest
       pub quiet : told-by by-pass rest ≡ []
-      pub right : Invalidate-right (item-of kind k (erase p)) (o .answer) rest
-      pub follows : erase (o .state) ≡ upon-invalidate (item-of kind k (erase p)) (erase p)
-      pub keeps : Kept kind (o .state)
+      pub right : Invalidate-right (item-of kind k (ledger-of p)) (o .answer) rest
+      pub follows : ledger-of (o .state) ≡ upon-invalidate (item-of kind k (ledger-of p)) (ledger-of p)
+      pub keeps : Coherent kind (o .state)
 
     pub struck-right : (k : Key) → Gone k (struck (held kind k p) p ds)
     struck-right k = go (held kind k p) refl
       where
         go : (x : Option (Entry Key Value)) → held kind k p ≡ x → Gone k (struck x p ds)
         go None h =
-            let f : item-of kind k (erase p) ≡ None = find-erase k ∙ ap (seen item) h in
+            let f : item-of kind k (ledger-of p) ≡ None = find-erase k ∙ ap (seen as-item) h in
             record {
               rest = [];
               tells = sym (append-nil ds);
               quiet = refl;
               right = subst (λ (o : Option (Item Key Value)). Invalidate-right o Absent []) (sym f) (refl, refl);
-              follows = sym (ap (λ (o : Option (Item Key Value)). upon-invalidate o (erase p)) f);
+              follows = sym (ap (λ (o : Option (Item Key Value)). upon-invalidate o (ledger-of p)) f);
               keeps = ok;
             }
         go (Some e) h =
-            let f : item-of kind k (erase p) ≡ Some (item e) = find-erase k ∙ ap (seen item) h in
+            let f : item-of kind k (ledger-of p) ≡ Some (as-item e) = find-erase k ∙ ap (seen as-item) h in
             record {
               rest = told StruckOut (e ∷ []);
               tells = refl;
@@ -163,7 +164,7 @@ module _ {Key Value : Type 0} (kind : Kind Key Value) (choices : Choices) (sizes
               right = subst (λ (o : Option (Item Key Value)). Invalidate-right o Struck (told StruckOut (e ∷ []))) (sym f) (refl, refl);
               follows =
                   leave-erase kind p ok (e ∷ []) (λ a i. elim i [ inl g ↦ subst (λ (z : Entry Key Value). In z (p .touch)) (sym g) (there k e h) | inr z ↦ absurd z ])
-                  ∙ sym (ap (λ (o : Option (Item Key Value)). upon-invalidate o (erase p)) f);
+                  ∙ sym (ap (λ (o : Option (Item Key Value)). upon-invalidate o (ledger-of p)) f);
               keeps = leave-kept kind p ok (e ∷ []);
             }
 
@@ -173,21 +174,21 @@ module _ {Key Value : Type 0} (kind : Kind Key Value) (choices : Choices) (sizes
       pub rest : List Departure
       pub tells : o .departures ≡ ds ++ rest
       pub quiet : told-by by-pass rest ≡ []
-      pub right : Insert-right kind choices sizes (erase p) k v (item-of kind k (erase p)) (o .answer) rest
-      pub follows : erase (o .state) ≡ upon-insert kind choices sizes k v now (takes-in (o .answer)) (outvoted rest) (item-of kind k (erase p)) (erase p)
-      pub keeps : Kept kind (o .state)
+      pub right : Insert-right kind choices sizes (ledger-of p) k v (item-of kind k (ledger-of p)) (o .answer) rest
+      pub follows : ledger-of (o .state) ≡ upon-insert kind choices sizes k v now (takes-in (o .answer)) (outvoted rest) (item-of kind k (ledger-of p)) (ledger-of p)
+      pub keeps : Coherent kind (o .state)
 
-    next-erase : erase p .next ≡ p .next
-    unfolding erase
+    next-erase : ledger-of p .next ≡ p .next
+    unfolding ledger-of
     next-erase = refl
 
-    fullness : full sizes p ≡ true → sizes .cells ≤ length (erase p .touch)
-    unfolding erase
-    fullness h = omega (arith, leb-true (sizes .cells) (length (p .touch)) h, length-map (p .touch) item)
+    fullness : full sizes p ≡ true → sizes .cells ≤ length (ledger-of p .touch)
+    unfolding ledger-of
+    fullness h = omega (arith, leb-true (sizes .cells) (length (p .touch)) h, length-map (p .touch) as-item)
 
-    roomy : full sizes p ≡ false → sizes .cells ≤ length (erase p .touch) → ⊥
-    unfolding erase
-    roomy h c = omega (arith, leb-false (sizes .cells) (length (p .touch)) h, length-map (p .touch) item)
+    roomy : full sizes p ≡ false → sizes .cells ≤ length (ledger-of p .touch) → ⊥
+    unfolding ledger-of
+    roomy h c = omega (arith, leb-false (sizes .cells) (length (p .touch)) h, length-map (p .touch) as-item)
 
     -- the chosen cell was nobody's
     alone-in : (q : State Key Value) (k : Key) (v : Value) (now : ℕ) → times free (cells-of (joined kind choices sizes free k v now q .touch)) ≤ 1 → tally (λ (x : Entry Key Value). eqb (x .cell) free) (q .touch) ≡ 0
@@ -202,23 +203,23 @@ module _ {Key Value : Type 0} (kind : Kind Key Value) (choices : Choices) (sizes
 
     module _ (law : Lawful kind) (room : p .next < top) (k : Key) (v : Value) (now : ℕ) where
       module _ (h : held kind k p ≡ None) where
-        f : item-of kind k (erase p) ≡ None
-        f = find-erase k ∙ ap (seen item) h
+        f : item-of kind k (ledger-of p) ≡ None
+        f = find-erase k ∙ ap (seen as-item) h
 
-        by-none : (P : Option (Item Key Value) → Type 0) → P None → P (item-of kind k (erase p))
+        by-none : (P : Option (Item Key Value) → Type 0) → P None → P (item-of kind k (ledger-of p))
         by-none P x = subst P (sym f) x
 
-        upon : (taken : Bool) (n : List ℕ) → upon-insert kind choices sizes k v now taken n (item-of kind k (erase p)) (erase p) ≡ cond taken (newly kind choices sizes k v now n (erase p)) (erase p)
-        upon taken n = ap (λ (o : Option (Item Key Value)). upon-insert kind choices sizes k v now taken n o (erase p)) f
+        upon : (taken : Bool) (n : List ℕ) → upon-insert kind choices sizes k v now taken n (item-of kind k (ledger-of p)) (ledger-of p) ≡ cond taken (newly kind choices sizes k v now n (ledger-of p)) (ledger-of p)
+        upon taken n = ap (λ (o : Option (Item Key Value)). upon-insert kind choices sizes k v now taken n o (ledger-of p)) f
 
-        fits-came : fitting kind choices (erase p) k v ≡ true → times free (cells-of (came kind choices sizes free k v now Fits p ds .state .touch)) ≤ 1 → Came k v now (came kind choices sizes free k v now Fits p ds)
+        fits-came : fitting kind choices (ledger-of p) k v ≡ true → times free (cells-of (came kind choices sizes free k v now Fits p ds .state .touch)) ≤ 1 → Came k v now (came kind choices sizes free k v now Fits p ds)
         fits-came t fr =
             elim (cases-bool (full sizes p)) [
               | inl u ↦ rw u (record {
                 rest = [];
                 tells = sym (append-nil ds);
                 quiet = refl;
-                right = by-none (λ o. Insert-right kind choices sizes (erase p) k v o (Refused NoCell) []) (right-full kind choices sizes (erase p) k v t (fullness u));
+                right = by-none (λ o. Insert-right kind choices sizes (ledger-of p) k v o (Refused NoCell) []) (right-full kind choices sizes (ledger-of p) k v t (fullness u));
                 follows = sym (upon false []);
                 keeps = ok;
               })
@@ -228,8 +229,8 @@ module _ {Key Value : Type 0} (kind : Kind Key Value) (choices : Choices) (sizes
                     rest = [];
                     tells = sym (append-nil ds);
                     quiet = refl;
-                    right = by-none (λ o. Insert-right kind choices sizes (erase p) k v o (New (p .next)) [])
-                        (subst (λ (n : ℕ). Insert-right kind choices sizes (erase p) k v None (New n) []) next-erase (right-fits kind choices sizes (erase p) k v t (roomy u)));
+                    right = by-none (λ o. Insert-right kind choices sizes (ledger-of p) k v o (New (p .next)) [])
+                        (subst (λ (n : ℕ). Insert-right kind choices sizes (ledger-of p) k v None (New n) []) next-erase (right-fits kind choices sizes (ledger-of p) k v t (roomy u)));
                     follows =
                         opened-erase (joined kind choices sizes free k v now p)
                         ∙ ap (opened-after kind choices sizes) (admit-erase kind law p ok free k v now alone (choices .life))
@@ -245,14 +246,14 @@ module _ {Key Value : Type 0} (kind : Kind Key Value) (choices : Choices) (sizes
         run-from a i = in-freeing (λ (x : Entry Key Value). x .weight) (kind .weighs k v) a (p .touch) i
 
         -- the run, as the ledger takes it
-        run-taken : looked (λ (i : Item Key Value). i .ticket) (erase p .touch) (outvoted (told Outvoted run)) ≡ map item run
-        unfolding erase
+        run-taken : looked (λ (i : Item Key Value). i .ticket) (ledger-of p .touch) (outvoted (told Outvoted run)) ≡ map as-item run
+        unfolding ledger-of
         run-taken =
-            ap (looked (λ (i : Item Key Value). i .ticket) (map item (p .touch))) (outvoted-told run)
-            ∙ looked-again item (λ (i : Item Key Value). i .ticket) (p .touch) run (ok .tickets) run-from
+            ap (looked (λ (i : Item Key Value). i .ticket) (map as-item (p .touch))) (outvoted-told run)
+            ∙ looked-again as-item (λ (i : Item Key Value). i .ticket) (p .touch) run (ok .tickets) run-from
 
-        told-run : told Outvoted run ≡ telling Outvoted (leaving kind choices sizes (erase p) k v)
-        told-run = sym (map-again (λ (i : Item Key Value). record { ticket = i .ticket; cause = Outvoted }) item run) ∙ ap (telling Outvoted) (run-erase kind choices sizes p ok k v)
+        told-run : told Outvoted run ≡ telling Outvoted (leaving kind choices sizes (ledger-of p) k v)
+        told-run = sym (map-again (λ (i : Item Key Value). record { ticket = i .ticket; cause = Outvoted }) as-item run) ∙ ap (telling Outvoted) (run-erase kind choices sizes p ok k v)
 
         nil-none : {A : Type 0} (xs : List A) → length xs ≡ 0 → none xs ≡ true
         nil-none [] e = refl
@@ -272,50 +273,50 @@ module _ {Key Value : Type 0} (kind : Kind Key Value) (choices : Choices) (sizes
         unfolding leave
         leave-next = refl
 
-        wins-came : fitting kind choices (erase p) k v ≡ false → wins kind choices sizes (erase p) k v ≡ true
+        wins-came : fitting kind choices (ledger-of p) k v ≡ false → wins kind choices sizes (ledger-of p) k v ≡ true
             → times free (cells-of (came kind choices sizes free k v now (Outvotes run) p ds .state .touch)) ≤ 1 → Came k v now (came kind choices sizes free k v now (Outvotes run) p ds)
         wins-came t w fr =
             elim (cases-bool (none run && full sizes p)) [
               | inl u ↦
                   let us = and-parts (none run) (full sizes p) u in
-                  let nil : leaving kind choices sizes (erase p) k v ≡ [] = sym (run-erase kind choices sizes p ok k v) ∙ ap (map item) (none-nil run (us .0)) in
+                  let nil : leaving kind choices sizes (ledger-of p) k v ≡ [] = sym (run-erase kind choices sizes p ok k v) ∙ ap (map as-item) (none-nil run (us .0)) in
                   rw u (record {
                     rest = [];
                     tells = sym (append-nil ds);
                     quiet = refl;
-                    right = by-none (λ o. Insert-right kind choices sizes (erase p) k v o (Refused NoCell) []) (right-wins-full kind choices sizes (erase p) k v t w nil (fullness (us .1)));
+                    right = by-none (λ o. Insert-right kind choices sizes (ledger-of p) k v o (Refused NoCell) []) (right-wins-full kind choices sizes (ledger-of p) k v t w nil (fullness (us .1)));
                     follows = sym (upon false []);
                     keeps = ok;
                   })
               | inr u ↦
                   let kept′ = leave-kept kind p ok run in
                   let alone = alone-in (leave run p) k v now (rw u at fr) in
-                  let no-cell : length (leaving kind choices sizes (erase p) k v) ≡ 0 → sizes .cells ≤ length (erase p .touch) → ⊥ =
+                  let no-cell : length (leaving kind choices sizes (ledger-of p) k v) ≡ 0 → sizes .cells ≤ length (ledger-of p .touch) → ⊥ =
                   λ z c. elim (and-cases (none run) (full sizes p) u) [
-                    | inl a ↦ both-ways (none run) a (nil-none run (sym (length-map run item) ∙ ap length (run-erase kind choices sizes p ok k v) ∙ z))
+                    | inl a ↦ both-ways (none run) a (nil-none run (sym (length-map run as-item) ∙ ap length (run-erase kind choices sizes p ok k v) ∙ z))
                     | inr a ↦ roomy a c
                   ] in
                   rw u (record {
                     rest = told Outvoted run;
                     tells = refl;
                     quiet = told-no by-pass Outvoted refl run;
-                    right = by-none (λ o. Insert-right kind choices sizes (erase p) k v o (New (p .next)) (told Outvoted run))
-                        (subst (λ (r : List Departure). Insert-right kind choices sizes (erase p) k v None (New (p .next)) r) (sym told-run)
-                        (subst (λ (n : ℕ). Insert-right kind choices sizes (erase p) k v None (New n) (telling Outvoted (leaving kind choices sizes (erase p) k v))) next-erase (right-wins kind choices sizes (erase p) k v t w no-cell)));
+                    right = by-none (λ o. Insert-right kind choices sizes (ledger-of p) k v o (New (p .next)) (told Outvoted run))
+                        (subst (λ (r : List Departure). Insert-right kind choices sizes (ledger-of p) k v None (New (p .next)) r) (sym told-run)
+                        (subst (λ (n : ℕ). Insert-right kind choices sizes (ledger-of p) k v None (New n) (telling Outvoted (leaving kind choices sizes (ledger-of p) k v))) next-erase (right-wins kind choices sizes (ledger-of p) k v t w no-cell)));
                     follows =
                         admit-erase kind law (leave run p) kept′ free k v now alone (choices .life)
-                        ∙ ap (add-item (choices .life) k v (kind .weighs k v) now) (leave-erase kind p ok run run-from ∙ ap (λ (is : List (Item Key Value)). remove is (erase p)) (sym run-taken))
+                        ∙ ap (add-item (choices .life) k v (kind .weighs k v) now) (leave-erase kind p ok run run-from ∙ ap (λ (is : List (Item Key Value)). remove is (ledger-of p)) (sym run-taken))
                         ∙ sym (upon true (outvoted (told Outvoted run)) ∙ rw t);
                     keeps = admit-kept kind law (leave run p) kept′ free k v now alone still-none (rw leave-next room) (choices .life);
                   })
             ]
 
-        loses-came : fitting kind choices (erase p) k v ≡ false → wins kind choices sizes (erase p) k v ≡ false → Came k v now (came kind choices sizes free k v now Loses p ds)
+        loses-came : fitting kind choices (ledger-of p) k v ≡ false → wins kind choices sizes (ledger-of p) k v ≡ false → Came k v now (came kind choices sizes free k v now Loses p ds)
         loses-came t w = record {
           rest = [];
           tells = sym (append-nil ds);
           quiet = refl;
-          right = by-none (λ o. Insert-right kind choices sizes (erase p) k v o TurnedAway []) (right-loses kind choices sizes (erase p) k v t w);
+          right = by-none (λ o. Insert-right kind choices sizes (ledger-of p) k v o TurnedAway []) (right-loses kind choices sizes (ledger-of p) k v t w);
           follows = sym (upon false []);
           keeps = ok;
         }
@@ -323,9 +324,9 @@ module _ {Key Value : Type 0} (kind : Kind Key Value) (choices : Choices) (sizes
         came-right : times free (cells-of (came kind choices sizes free k v now (verdict kind choices k v p) p ds .state .touch)) ≤ 1 → Came k v now (came kind choices sizes free k v now (verdict kind choices k v p) p ds)
         came-right fr =
             let is = verdict-is kind choices sizes p ok k v in
-            elim (cases-bool (fitting kind choices (erase p) k v)) [
+            elim (cases-bool (fitting kind choices (ledger-of p) k v)) [
               | inl t ↦ let e : verdict kind choices k v p ≡ Fits = is ∙ rw t in rw e (fits-came t (rw e at fr))
-              | inr t ↦ elim (cases-bool (wins kind choices sizes (erase p) k v)) [
+              | inr t ↦ elim (cases-bool (wins kind choices sizes (ledger-of p) k v)) [
                 | inl w ↦ let e : verdict kind choices k v p ≡ Outvotes run = is ∙ rw (t, w) in rw e (wins-came t w (rw e at fr))
                 | inr w ↦ let e : verdict kind choices k v p ≡ Loses = is ∙ rw (t, w) in rw e (loses-came t w)
               ]
@@ -337,14 +338,14 @@ module _ {Key Value : Type 0} (kind : Kind Key Value) (choices : Choices) (sizes
           go : (x : Option (Entry Key Value)) → held kind k p ≡ x → times free (cells-of (inserted kind choices sizes free k v now x p ds .state .touch)) ≤ 1 → Came k v now (inserted kind choices sizes free k v now x p ds)
           go None h fr = came-right h fr
           go (Some e) h fr =
-              let g : item-of kind k (erase p) ≡ Some (item e) = find-erase k ∙ ap (seen item) h in
+              let g : item-of kind k (ledger-of p) ≡ Some (as-item e) = find-erase k ∙ ap (seen as-item) h in
               record {
                 rest = [];
                 tells = sym (append-nil ds);
                 quiet = refl;
-                right = subst (λ (o : Option (Item Key Value)). Insert-right kind choices sizes (erase p) k v o (Replaced (e .ticket)) []) (sym g) (refl, refl);
+                right = subst (λ (o : Option (Item Key Value)). Insert-right kind choices sizes (ledger-of p) k v o (Replaced (e .ticket)) []) (sym g) (refl, refl);
                 follows =
                     replace-erase kind p ok e (there k e h) (choices .life) v (kind .weighs k v) now
-                    ∙ sym (ap (λ (o : Option (Item Key Value)). upon-insert kind choices sizes k v now false [] o (erase p)) g);
+                    ∙ sym (ap (λ (o : Option (Item Key Value)). upon-insert kind choices sizes k v now false [] o (ledger-of p)) g);
                 keeps = replace-kept kind p ok e (there k e h) (choices .life) v (kind .weighs k v) now;
               }

@@ -29,7 +29,8 @@ use Rattle.rules.specs.Ledger.{handing, fitting}
 use Rattle.rules.specs.Account.{times, told-tickets, Free, All-free, state-after}
 use Rattle.rules.specs.Sums.{Adds-up, Sums-of}
 use Rattle.rules.proofs.Fronts.{tally-append, tally-without, in-tally, first-in, same-one, in-without, in-append, in-freeing, in-looked}
-use Rattle.rules.proofs.Erasing.{Kept, From, in-stays, leave-kept, life-from, idle-from, trim-from, k1, k2, passed-kept, erase}
+use Rattle.rules.specs.Agreement.{Coherent, ledger-of}
+use Rattle.rules.proofs.Erasing.{From, in-stays, leave-kept, life-from, idle-from, trim-from, k1, k2, passed-kept}
 use Rattle.rules.proofs.Voting.{verdict-is, run-of, wins}
 use Rattle.rules.proofs.Moves.{tally-take, tally-passing, tally-freeing, tally-looked, among-in, in-among}
 use Rattle.rules.proofs.Steps.{sketch-kept}
@@ -131,7 +132,7 @@ module _ {Key Value : Type 0} where
   unit e = 1
 
   module _ (kind : Kind Key Value) (sizes : Sizes) (small : sizes .cells ≤ 4096) where
-    module _ (s : State Key Value) (ok : Kept kind s) (up : Adds-up sizes s) where
+    module _ (s : State Key Value) (ok : Coherent kind s) (up : Adds-up sizes s) where
       -- ---- some leave
 
       leave-recorded : (es : List (Entry Key Value)) → leave es s .recorded ≡ s .recorded - total heavy es
@@ -241,23 +242,23 @@ module _ {Key Value : Type 0} where
     -- ---- the passes
 
     module _ (choices : Choices) (now : ℕ) where
-      life-cells : (s : State Key Value) → Kept kind s → (n : ℕ) → tally (λ (e : Entry Key Value). eqb (e .cell) n) (life-pass choices now s) ≤ 1
+      life-cells : (s : State Key Value) → Coherent kind s → (n : ℕ) → tally (λ (e : Entry Key Value). eqb (e .cell) n) (life-pass choices now s) ≤ 1
       unfolding life-pass
       life-cells s ok n =
           let p : Entry Key Value → Bool = λ e. eqb (e .cell) n in
           omega (arith, tally-take (λ (e : Entry Key Value). eqb (e .cell) n) 100 (passing (lived-out choices now) (written s)), tally-passing (λ (e : Entry Key Value). eqb (e .cell) n) (lived-out choices now) (written s), tally-looked cell-of n (s .touch) (s .write), ok .once n)
 
-      idle-cells : (s : State Key Value) → Kept kind s → (n : ℕ) → tally (λ (e : Entry Key Value). eqb (e .cell) n) (idle-pass choices now s) ≤ 1
+      idle-cells : (s : State Key Value) → Coherent kind s → (n : ℕ) → tally (λ (e : Entry Key Value). eqb (e .cell) n) (idle-pass choices now s) ≤ 1
       unfolding idle-pass
       idle-cells s ok n =
           omega (arith, tally-take (λ (e : Entry Key Value). eqb (e .cell) n) 100 (passing (idled-out choices now) (s .touch)), tally-passing (λ (e : Entry Key Value). eqb (e .cell) n) (idled-out choices now) (s .touch), ok .cells n)
 
-      trim-cells : (s : State Key Value) → Kept kind s → (n : ℕ) → tally (λ (e : Entry Key Value). eqb (e .cell) n) (trim-pass choices now s) ≤ 1
+      trim-cells : (s : State Key Value) → Coherent kind s → (n : ℕ) → tally (λ (e : Entry Key Value). eqb (e .cell) n) (trim-pass choices now s) ≤ 1
       unfolding trim-pass
       trim-cells s ok n =
           omega (arith, tally-take (λ (e : Entry Key Value). eqb (e .cell) n) 100 (freeing heavy (excess (choices .capacity) (s .recorded)) (s .touch)), tally-freeing (λ (e : Entry Key Value). eqb (e .cell) n) heavy (excess (choices .capacity) (s .recorded)) (s .touch), ok .cells n)
 
-      passed-sums : (s : State Key Value) → Kept kind s → Adds-up sizes s → Adds-up sizes (passed choices now s)
+      passed-sums : (s : State Key Value) → Coherent kind s → Adds-up sizes s → Adds-up sizes (passed choices now s)
       unfolding passed
       passed-sums s ok up =
           let a1 = after-life choices now s in
@@ -271,14 +272,14 @@ module _ {Key Value : Type 0} where
     -- ---- the calls
 
     module _ (choices : Choices) (free : ℕ) (narrow : (k : Key) (v : Value) → kind .weighs k v < 2 ^ 32) where
-      module _ (p : State Key Value) (ok : Kept kind p) (up : Adds-up sizes p) (ds : List Departure) where
+      module _ (p : State Key Value) (ok : Coherent kind p) (up : Adds-up sizes p) (ds : List Departure) where
         here : (k : Key) (e : Entry Key Value) → held kind k p ≡ Some e → In e (p .touch)
         here k e h = first-in (λ (x : Entry Key Value). kind .alike (x .key) k) e (p .touch) h .0
 
         counted-sums : (k : Key) → Adds-up sizes (counted kind k p)
         counted-sums k = record { recorded = up .recorded; count = up .count; room = up .room; light = up .light }
 
-        counted-kept : (k : Key) → Kept kind (counted kind k p)
+        counted-kept : (k : Key) → Coherent kind (counted kind k p)
         counted-kept k = sketch-kept kind p ok (counted kind k p .sketch)
 
         got-sums : (k : Key) (now : ℕ) → Adds-up sizes (got choices now (held kind k p) (counted kind k p) ds .state)
@@ -338,9 +339,9 @@ module _ {Key Value : Type 0} where
           came-sums : Adds-up sizes (came kind choices sizes free k v now (verdict kind choices k v p) p ds .state)
           came-sums =
               let is = verdict-is kind choices sizes p ok k v in
-              rw is (elim (fitting kind choices (erase p) k v) as (λ b. Adds-up sizes (came kind choices sizes free k v now (cond b Fits (cond (wins kind choices sizes (erase p) k v) (Outvotes run) Loses)) p ds .state)) [
+              rw is (elim (fitting kind choices (ledger-of p) k v) as (λ b. Adds-up sizes (came kind choices sizes free k v now (cond b Fits (cond (wins kind choices sizes (ledger-of p) k v) (Outvotes run) Loses)) p ds .state)) [
                 | true ↦ fits-sums
-                | false ↦ elim (wins kind choices sizes (erase p) k v) as (λ b. Adds-up sizes (came kind choices sizes free k v now (cond b (Outvotes run) Loses) p ds .state)) [ true ↦ wins-sums | false ↦ up ]
+                | false ↦ elim (wins kind choices sizes (ledger-of p) k v) as (λ b. Adds-up sizes (came kind choices sizes free k v now (cond b (Outvotes run) Loses) p ds .state)) [ true ↦ wins-sums | false ↦ up ]
               ])
 
           inserted-sums : Adds-up sizes (inserted kind choices sizes free k v now (held kind k p) p ds .state)
@@ -353,7 +354,7 @@ module _ {Key Value : Type 0} where
       timely-sums : (now : ℕ) (s : State Key Value) (o : Outcome Key Value) → Adds-up sizes s → Adds-up sizes (o .state) → Adds-up sizes (timely now s o .state)
       timely-sums now s o up h = elim (leb now latest) as (λ b. Adds-up sizes (cond b o (outcome s (Refused BeyondRange) []) .state)) [ true ↦ h | false ↦ up ]
 
-      step-sums : (s : State Key Value) → Kept kind s → Adds-up sizes s → (c : Call Key Value) → Adds-up sizes (step kind choices sizes free s c .state)
+      step-sums : (s : State Key Value) → Coherent kind s → Adds-up sizes s → (c : Call Key Value) → Adds-up sizes (step kind choices sizes free s c .state)
       unfolding step
       step-sums s ok up (Get k now) = timely-sums now s _ up (got-sums (passed choices now s) (passed-kept kind choices now s ok) (passed-sums choices now s ok up) (passes-told choices now s) k now)
       step-sums s ok up (Contains k now) = timely-sums now s _ up (asked-sums (passed choices now s) (passed-kept kind choices now s ok) (passed-sums choices now s ok up) (passes-told choices now s) now (held kind k (passed choices now s)))

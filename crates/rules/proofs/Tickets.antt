@@ -29,7 +29,8 @@ use Rattle.rules.specs.Calls.{Outcome, held, got, asked, struck, inserted, cam
 use Rattle.rules.specs.Ledger.{handing, fitting}
 use Rattle.rules.specs.Account.{times, told-tickets}
 use Rattle.rules.proofs.Fronts.{tally-append, first-in, in-freeing}
-use Rattle.rules.proofs.Erasing.{Kept, erase, passed-kept}
+use Rattle.rules.specs.Agreement.{Coherent, ledger-of}
+use Rattle.rules.proofs.Erasing.{passed-kept}
 use Rattle.rules.proofs.Voting.{verdict-is, run-of, wins}
 use Rattle.rules.proofs.Good.{passed-next}
 use Rattle.rules.proofs.Moves.{bears, told-append, told-times, leave-moves, back-moves, single-once, tally-freeing, passes-moves}
@@ -45,7 +46,7 @@ module _ {Key Value : Type 0} where
     pub before : (n : ℕ) → times n (told-tickets (o .departures)) ≤ times n (told-tickets ds) + tally (bears n) (p .touch)
 
 module _ {Key Value : Type 0} (kind : Kind Key Value) (choices : Choices) (sizes : Sizes) (free : ℕ) where
-  module _ (p : State Key Value) (ok : Kept kind p) (ds : List Departure) where
+  module _ (p : State Key Value) (ok : Coherent kind p) (ds : List Departure) where
     there : (k : Key) (e : Entry Key Value) → held kind k p ≡ Some e → In e (p .touch)
     there k e h = first-in (λ (x : Entry Key Value). kind .alike (x .key) k) e (p .touch) h .0
 
@@ -143,9 +144,9 @@ module _ {Key Value : Type 0} (kind : Kind Key Value) (choices : Choices) (sizes
       came-shift : Shift p ds (came kind choices sizes free k v now (verdict kind choices k v p) p ds)
       came-shift =
           let is = verdict-is kind choices sizes p ok k v in
-          rw is (elim (fitting kind choices (erase p) k v) as (λ b. Shift p ds (came kind choices sizes free k v now (cond b Fits (cond (wins kind choices sizes (erase p) k v) (Outvotes run) Loses)) p ds)) [
+          rw is (elim (fitting kind choices (ledger-of p) k v) as (λ b. Shift p ds (came kind choices sizes free k v now (cond b Fits (cond (wins kind choices sizes (ledger-of p) k v) (Outvotes run) Loses)) p ds)) [
             | true ↦ fits-shift
-            | false ↦ elim (wins kind choices sizes (erase p) k v) as (λ b. Shift p ds (came kind choices sizes free k v now (cond b (Outvotes run) Loses) p ds)) [
+            | false ↦ elim (wins kind choices sizes (ledger-of p) k v) as (λ b. Shift p ds (came kind choices sizes free k v now (cond b (Outvotes run) Loses) p ds)) [
               | true ↦ wins-shift
               | false ↦ record { counts = λ n. omega arith; numbers = inl (refl, refl); before = λ n. omega arith }
             ]
@@ -166,7 +167,7 @@ module _ {Key Value : Type 0} (kind : Kind Key Value) (choices : Choices) (sizes
     pub numbers : Handed (s .next) (o .answer) (o .state .next)
     pub before : (n : ℕ) → times n (told-tickets (o .departures)) ≤ tally (bears n) (s .touch)
 
-  module _ (s : State Key Value) (ok : Kept kind s) where
+  module _ (s : State Key Value) (ok : Coherent kind s) where
     past : (now : ℕ) (o : Outcome Key Value) → Shift (passed choices now s) (passes-told choices now s) o → Moved s o
     past now o h = record {
       counts = λ n. omega (arith, h .counts n, passes-moves kind choices now s ok n);

@@ -27,7 +27,7 @@ use Rattle.rules.specs.Items.{Item, Ledger, weight-of, telling}
 use Rattle.rules.specs.Ledger.{popularity-of, fitting, takes-in}
 use Rattle.rules.specs.Account.{Run, Shortest, Within, No-cell, Newcomer-right}
 use Rattle.rules.proofs.Fronts.{in-freeing, map-freeing, map-total}
-use Rattle.rules.proofs.Erasing.{item, erase, Kept}
+use Rattle.rules.specs.Agreement.{as-item, ledger-of, Coherent}
 
 module _ {A : Type 0} where
   pub freeing-take : (w : A → ℕ) (n : ℕ) (xs : List A) → freeing w n xs ≡ take (length (freeing w n xs)) xs
@@ -190,24 +190,24 @@ module _ {Key Value : Type 0} (kind : Kind Key Value) (choices : Choices) (sizes
 
   -- ---- the verdict of a state
 
-  module _ (s : State Key Value) (ok : Kept kind s) (k : Key) (v : Value) where
+  module _ (s : State Key Value) (ok : Coherent kind s) (k : Key) (v : Value) where
     abbrev pub run-of : List (Entry Key Value)
     run-of = freeing (λ (e : Entry Key Value). e .weight) (kind .weighs k v) (s .touch)
 
-    pub run-erase : map item run-of ≡ leaving (erase s) k v
-    unfolding erase
-    run-erase = map-freeing item heavy (kind .weighs k v) (s .touch)
+    pub run-erase : map as-item run-of ≡ leaving (ledger-of s) k v
+    unfolding ledger-of
+    run-erase = map-freeing as-item heavy (kind .weighs k v) (s .touch)
 
-    weight-same : total (λ (e : Entry Key Value). e .weight) run-of ≡ weight-of (leaving (erase s) k v)
-    weight-same = sym (map-total item heavy run-of) ∙ ap weight-of run-erase
+    weight-same : total (λ (e : Entry Key Value). e .weight) run-of ≡ weight-of (leaving (ledger-of s) k v)
+    weight-same = sym (map-total as-item heavy run-of) ∙ ap weight-of run-erase
 
-    popularity-same : popularity kind (s .sketch) run-of ≡ popularity-of kind (s .sketch) (leaving (erase s) k v)
+    popularity-same : popularity kind (s .sketch) run-of ≡ popularity-of kind (s .sketch) (leaving (ledger-of s) k v)
     popularity-same =
         total-same (λ (e : Entry Key Value). frequency (s .sketch) (e .hash)) (λ (e : Entry Key Value). frequency (s .sketch) (kind .hashed (e .key))) run-of
         (λ e i. ap (frequency (s .sketch)) (ok .hashes e (in-freeing (λ (x : Entry Key Value). x .weight) (kind .weighs k v) e (s .touch) i)))
-        ∙ sym (map-total item (λ (i : Item Key Value). frequency (s .sketch) (kind .hashed (i .key))) run-of)
+        ∙ sym (map-total as-item (λ (i : Item Key Value). frequency (s .sketch) (kind .hashed (i .key))) run-of)
         ∙ ap (popularity-of kind (s .sketch)) run-erase
 
-    pub verdict-is : verdict kind choices k v s ≡ cond (fitting kind choices (erase s) k v) Fits (cond (wins (erase s) k v) (Outvotes run-of) Loses)
-    unfolding verdict erase
+    pub verdict-is : verdict kind choices k v s ≡ cond (fitting kind choices (ledger-of s) k v) Fits (cond (wins (ledger-of s) k v) (Outvotes run-of) Loses)
+    unfolding verdict ledger-of
     verdict-is = rw (weight-same, popularity-same)

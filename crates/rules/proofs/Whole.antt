@@ -21,7 +21,8 @@ use Rattle.rules.specs.Items.{Item, Ledger, empty, tickets-of}
 use Rattle.rules.specs.Ledger.{handing, entered, follow}
 use Rattle.rules.specs.Account.{times, told-tickets, all-told, all-handed, Right, Free, All-free, held-tickets, Accounted, Account, state-after, log-of, ledger-after}
 use Rattle.rules.proofs.Fronts.{tally-append}
-use Rattle.rules.proofs.Erasing.{item, erase, Kept, map-again}
+use Rattle.rules.specs.Agreement.{as-item, ledger-of, Coherent}
+use Rattle.rules.proofs.Erasing.{map-again}
 use Rattle.rules.proofs.Hitting.{tally-map}
 use Rattle.rules.proofs.Good.{good}
 use Rattle.rules.proofs.Moves.{bears}
@@ -30,8 +31,8 @@ use Rattle.rules.proofs.Tickets.{moved}
 module _ {Key Value : Type 0} (kind : Kind Key Value) (choices : Choices) (sizes : Sizes) where
   -- A state and a ledger beside it, where ticket n was told T n times and handed out H n times.
   pub record Stands (s : State Key Value) (l : Ledger Key Value) (T H : ℕ → ℕ) : Type 0 where
-    pub ok : Kept kind s
-    pub same : l ≡ erase s
+    pub ok : Coherent kind s
+    pub same : l ≡ ledger-of s
     pub sums : (n : ℕ) → T n + tally (bears n) (s .touch) ≡ H n
     pub low : (n : ℕ) → s .next ≤ n → H n ≡ 0
     pub one : (n : ℕ) → H n ≤ 1
@@ -56,7 +57,7 @@ module _ {Key Value : Type 0} (kind : Kind Key Value) (choices : Choices) (sizes
       let g = good kind choices sizes (t .free) s (st .ok) law room (t .call) fr in
       let m = moved kind choices sizes (t .free) s (st .ok) (t .call) in
       let x = line kind choices sizes s t in
-      let same : ledger-on l x ≡ erase (after kind choices sizes s t) = ap (λ (k : Ledger Key Value). ledger-on k x) (st .same) ∙ sym (g .follows) in
+      let same : ledger-on l x ≡ ledger-of (after kind choices sizes s t) = ap (λ (k : Ledger Key Value). ledger-on k x) (st .same) ∙ sym (g .follows) in
       elim (m .numbers) [
         | inl h ↦
             let none : (n : ℕ) → times n (handing (x .answer)) ≡ 0 = λ n. ap (times n) (h .0) in (
@@ -88,7 +89,7 @@ module _ {Key Value : Type 0} (kind : Kind Key Value) (choices : Choices) (sizes
             )
       ]
 
-  run-stands : Lawful kind → (ts : List (Turn Key Value)) (s : State Key Value) (l : Ledger Key Value) (T H : ℕ → ℕ)
+  pub run-stands : Lawful kind → (ts : List (Turn Key Value)) (s : State Key Value) (l : Ledger Key Value) (T H : ℕ → ℕ)
       → Stands s l T H → s .next + length ts < top → All-free kind choices sizes s ts
       → Stands (end kind choices sizes s ts) (follow kind choices sizes l (log kind choices sizes s ts))
       (λ n. T n + times n (all-told (log kind choices sizes s ts))) (λ n. H n + times n (all-handed (log kind choices sizes s ts)))
@@ -111,7 +112,7 @@ module _ {Key Value : Type 0} (kind : Kind Key Value) (choices : Choices) (sizes
       )
 
   pub fresh-stands : Stands fresh empty (λ n. 0) (λ n. 0)
-  unfolding fresh empty erase
+  unfolding fresh empty ledger-of
   fresh-stands = record {
     ok = record {
       cells = λ n. omega arith;
@@ -135,9 +136,9 @@ module _ {Key Value : Type 0} (kind : Kind Key Value) (choices : Choices) (sizes
   pub bears-held : (s : State Key Value) (n : ℕ) → times n (held-tickets s) ≡ tally (bears n) (s .touch)
   bears-held s n = tally-map (λ (e : Entry Key Value). e .ticket) (λ x. eqb x n) (s .touch)
 
-  pub in-turn-of : (s : State Key Value) (l : Ledger Key Value) → l ≡ erase s → held-tickets s ≡ tickets-of (l .touch)
-  unfolding erase
-  in-turn-of s l e = sym (ap (λ (k : Ledger Key Value). tickets-of (k .touch)) e ∙ map-again (λ (i : Item Key Value). i .ticket) item (s .touch))
+  pub in-turn-of : (s : State Key Value) (l : Ledger Key Value) → l ≡ ledger-of s → held-tickets s ≡ tickets-of (l .touch)
+  unfolding ledger-of
+  in-turn-of s l e = sym (ap (λ (k : Ledger Key Value). tickets-of (k .touch)) e ∙ map-again (λ (i : Item Key Value). i .ticket) as-item (s .touch))
 
   pub account : Lawful kind → (ts : List (Turn Key Value)) → length ts < 2 ^ 32 → All-free kind choices sizes fresh ts → Account kind choices sizes ts
   account law ts few fr =

@@ -1,5 +1,5 @@
 -- A ledger: it is given the choices and the sizes, then each call with its answer and the departures told, and nothing else.
-use mathlib.Core.Bool.{Bool, true, false, cond}
+use mathlib.Core.Bool.{Bool, true, false, cond, not}
 use mathlib.Core.List.{List, [], _∷_}
 use Prim.Native.Nat.{ℕ}
 use lib.Dec.{leb}
@@ -19,6 +19,7 @@ use Rattle.rules.specs.Kinds.{Kind}
 use Rattle.rules.specs.Entries.{Sizes}
 use Rattle.rules.specs.Limits.{fits, latest}
 use Rattle.rules.specs.Opening.{opening}
+use Rattle.rules.specs.Votes.{none}
 use Rattle.rules.specs.Items.{Item, Ledger, remove, touch-item, replace-item, add-item, sketching, sweep-items}
 use Rattle.rules.specs.Runs.{Line}
 
@@ -88,19 +89,9 @@ handing Absent = []
 handing Swept = []
 handing (Refused n) = []
 
--- whether an answer takes a newcomer in
+-- whether an answer takes a newcomer in: it hands out a ticket
 abbrev pub takes-in : {Value : Type 0} → Answer Value → Bool
-takes-in (Hit v) = false
-takes-in Miss = false
-takes-in Yes = false
-takes-in No = false
-takes-in (New t) = true
-takes-in (Replaced t) = false
-takes-in TurnedAway = false
-takes-in Struck = false
-takes-in Absent = false
-takes-in Swept = false
-takes-in (Refused n) = false
+takes-in a = not (none (handing a))
 
 module _ {Key Value : Type 0} (kind : Kind Key Value) where
   -- the item of a key

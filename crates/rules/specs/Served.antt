@@ -1,7 +1,7 @@
 -- What a served list of calls promises, said of its log alone and of the cache at the end.
 use mathlib.Core.Path.{_≡_}
 use mathlib.Core.List.{List, [], _∷_, _++_}
-use Prim.Native.Nat.{ℕ, _<_, _≤_, _^_}
+use Prim.Native.Nat.{ℕ, _+_, _<_, _≤_, _^_}
 use lib.ListN.{length}
 use Rattle.rules.specs.declared.choices.Choices.{Choices}
 use Rattle.rules.specs.declared.call.Call.{Call}
@@ -12,7 +12,9 @@ use Rattle.rules.specs.Calls.{Outcome, step}
 use Rattle.rules.specs.Runs.{Turn, Line, end, log}
 use Rattle.rules.specs.Items.{Ledger, empty, tickets-of}
 use Rattle.rules.specs.Ledger.{handing, entered, follow}
-use Rattle.rules.specs.Account.{Accounted, times, told-tickets, held-tickets, Right, All-free}
+use Rattle.rules.specs.Account.{Accounted, times, told-tickets, all-told, all-handed, held-tickets, Right, All-free}
+use Rattle.rules.specs.Agreement.{Agrees}
+use Rattle.rules.specs.Limits.{top}
 
 module _ {Key Value : Type 0} (kind : Kind Key Value) (choices : Choices) (sizes : Sizes) where
   -- The ledger l goes through the lines of a log. Before each and after all, the tickets told and handed out so far are
@@ -30,12 +32,18 @@ module _ {Key Value : Type 0} (kind : Kind Key Value) (choices : Choices) (sizes
     -- the entries held bear the items' tickets in turn
     pub in-turn : held-tickets s ≡ tickets-of (follow kind choices sizes empty lines .touch)
 
-  -- these lines are told, and this state is left, by some turns with cells that were free
-  pub record Ran (lines : List (Line Key Value)) (s : State Key Value) : Type 0 where
+  -- from a state these lines are told, and another state is left, by some turns with cells that were free
+  pub record Ran (start : State Key Value) (lines : List (Line Key Value)) (s : State Key Value) : Type 0 where
     pub turns : List (Turn Key Value)
-    pub told : log kind choices sizes fresh turns ≡ lines
-    pub ends : end kind choices sizes fresh turns ≡ s
-    pub free : All-free kind choices sizes fresh turns
+    pub told : log kind choices sizes start turns ≡ lines
+    pub ends : end kind choices sizes start turns ≡ s
+    pub free : All-free kind choices sizes start turns
+
+  -- A cache that went on from a ledger that agreed with it: the ledger goes through the lines, and agrees again at their end.
+  pub record Went-on (l : Ledger Key Value) (told handed : List ℕ) (lines : List (Line Key Value)) (s : State Key Value) : Type 0 where
+    pub through : Through l told handed lines
+    pub in-turn : held-tickets s ≡ tickets-of (follow kind choices sizes l lines .touch)
+    pub agrees : Agrees kind s (follow kind choices sizes l lines) (told ++ all-told lines) (handed ++ all-handed lines)
 
   -- What one call has to promise: its outcome is the defined one, for some cell that is nobody else's afterwards.
   pub record Does (s : State Key Value) (c : Call Key Value) (o : Outcome Key Value) : Type 0 where
@@ -47,4 +55,15 @@ module _ {Key Value : Type 0} (kind : Kind Key Value) (choices : Choices) (sizes
 abbrev pub Served-of : {Key Value : Type 0} → Kind Key Value → Type 0
 Served-of {Key} {Value} kind =
     (choices : Choices) (sizes : Sizes) (lines : List (Line Key Value)) (s : State Key Value)
-    → Ran kind choices sizes lines s → length lines < 2 ^ 32 → Served kind choices sizes lines s
+    → Ran kind choices sizes fresh lines s → length lines < 2 ^ 32 → Served kind choices sizes lines s
+
+-- every log of a cache that goes on, as long as tickets last
+abbrev pub Goes-on-of : {Key Value : Type 0} → Kind Key Value → Type 0
+Goes-on-of {Key} {Value} kind =
+    (choices : Choices) (sizes : Sizes) (start : State Key Value) (l : Ledger Key Value) (told handed : List ℕ) → Agrees kind start l told handed
+    → (lines : List (Line Key Value)) (s : State Key Value) → Ran kind choices sizes start lines s → start .next + length lines < top
+    → Went-on kind choices sizes l told handed lines s
+
+-- a fresh cache agrees with the empty ledger
+abbrev pub Fresh-agrees : {Key Value : Type 0} → Kind Key Value → Type 0
+Fresh-agrees kind = Agrees kind fresh empty [] []

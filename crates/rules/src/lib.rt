@@ -22,6 +22,7 @@ pub use laws::passes_clear_fronts;
 pub use laws::sums_stop;
 pub use refusal::Refusal;
 pub use theorems::account_of;
+pub use theorems::goes_on_of;
 pub use theorems::samples_stand;
 pub use theorems::served_of;
 pub use theorems::sums_of;

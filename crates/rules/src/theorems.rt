@@ -2,7 +2,7 @@
 ghost use Rattle.rules.specs.Account.{Account-of};
 ghost use Rattle.rules.specs.Kinds.{kind-of};
 ghost use Rattle.rules.specs.Samples.{Samples};
-ghost use Rattle.rules.specs.Served.{Served-of};
+ghost use Rattle.rules.specs.Served.{Fresh-agrees, Goes-on-of, Served-of};
 ghost use Rattle.rules.specs.Sums.{Sums-of};
 use kinds::EntryKind;
 
@@ -23,6 +23,15 @@ pub fn account_of<K: EntryKind>() -> u8
 /// The same said of the log alone: the ledger goes through it, line by line.
 pub fn served_of<K: EntryKind>() -> u8
     ensures { λ _. ⌜ Served-of (kind-of alike hashed weighs weighed) ⌝ }
+{
+    0
+}
+
+/// A cache that goes on from any ledger that agrees with it is accounted for in the same way, and the
+/// two agree again; a fresh cache agrees with the empty ledger.
+pub fn goes_on_of<K: EntryKind>() -> u8
+    ensures goes_on { λ _. ⌜ Goes-on-of (kind-of alike hashed weighs weighed) ⌝ }
+    ensures fresh { λ _. ⌜ Fresh-agrees (kind-of alike hashed weighs weighed) ⌝ }
 {
     0
 }
