@@ -1,9 +1,9 @@
 -- A run, one call after another, and what it promises.
 use mathlib.Core.Path.{_≡_, refl, sym, ap, _∙_, subst}
 use mathlib.Core.List.{List, [], _∷_, _++_, append-assoc}
-use Prim.Native.Nat.{ℕ, suc, _+_, _<_, _≤_, _^_}
+use Prim.Native.Nat.{ℕ, zero, suc, _+_, _<_, _≤_, _^_}
 use native.Mathlib.Omega.{arith}
-use lib.ListN.{length}
+use lib.ListN.{length, take}
 use lib.Dec.{eqb}
 use Rattle.std.specs.declared.option.Option.the-variants.{None}
 use Rattle.rules.specs.Fronts.{tally}
@@ -21,9 +21,9 @@ use Rattle.rules.specs.Account.{Accounted, times, told-tickets, all-told, all-
 use Rattle.rules.specs.Served.{Through, Served, Ran, Does, Went-on}
 use Rattle.rules.specs.Agreement.{Agrees}
 use Rattle.rules.proofs.Fronts.{tally-append}
-use Rattle.rules.proofs.Good.{good}
-use Rattle.rules.proofs.Moves.{bears}
-use Rattle.rules.proofs.Whole.{Stands, restand, turn-stands, run-stands, ledger-on, fresh-stands, fresh-next, bears-held, in-turn-of, account}
+use Rattle.rules.proofs.Rightness.{good}
+use Rattle.rules.proofs.Telling.{bears}
+use Rattle.rules.proofs.Standing.{Stands, restand, turn-stands, run-stands, ledger-on, fresh-stands, fresh-next, bears-held, in-turn-of, had-item, account}
 
 module _ {Key Value : Type 0} (kind : Kind Key Value) (choices : Choices) (sizes : Sizes) where
   -- ---- one call more
@@ -99,9 +99,29 @@ module _ {Key Value : Type 0} (kind : Kind Key Value) (choices : Choices) (sizes
       (λ n. times n (told ++ told-tickets (x .departures))) (λ n. times n (handed ++ handing (x .answer))) (one .0)
       (λ n. sym (tally-append (λ y. eqb y n) told (told-tickets (x .departures)))) (λ n. sym (tally-append (λ y. eqb y n) handed (handing (x .answer)))) in (
         accounted-of s l told handed st,
+        had-item kind choices sizes s l (st .ok) (st .same) t,
         subst (λ (k : Ledger Key Value). Right kind choices sizes k (x .call) (x .answer) (x .departures)) (sym (st .same)) (g .right),
         goes-through law ts s′ l′ (told ++ told-tickets (x .departures)) (handed ++ handing (x .answer)) st′ (omega (arith, one .1)) (fr .1),
       )
+
+  -- ---- the first calls of a list
+
+  log-take : (n : ℕ) (s : State Key Value) (ts : List (Turn Key Value)) → log kind choices sizes s (take n ts) ≡ take n (log kind choices sizes s ts)
+  unfolding log
+  log-take zero s ts = refl
+  log-take (suc n) s [] = refl
+  log-take (suc n) s (t ∷ ts) = ap (λ (l : List (Line Key Value)). line kind choices sizes s t ∷ l) (log-take n (after kind choices sizes s t) ts)
+
+  free-take : (n : ℕ) (s : State Key Value) (ts : List (Turn Key Value)) → All-free kind choices sizes s ts → All-free kind choices sizes s (take n ts)
+  unfolding All-free
+  free-take zero s ts fr = tt
+  free-take (suc n) s [] fr = tt
+  free-take (suc n) s (t ∷ ts) fr = (fr .0, free-take n (after kind choices sizes s t) ts (fr .1))
+
+  take-few : (n : ℕ) (ts : List (Turn Key Value)) → length (take n ts) ≤ length ts
+  take-few zero ts = omega arith
+  take-few (suc n) [] = omega arith
+  take-few (suc n) (t ∷ ts) = omega (arith, take-few n ts)
 
   pub served : Lawful kind → (lines : List (Line Key Value)) (s : State Key Value) → Ran kind choices sizes fresh lines s → length lines < 2 ^ 32 → Served kind choices sizes lines s
   served law lines s r few =
@@ -113,6 +133,15 @@ module _ {Key Value : Type 0} (kind : Kind Key Value) (choices : Choices) (sizes
             ap (held-tickets) (sym (r .ends))
             ∙ account kind choices sizes law (r .turns) n (r .free) .in-turn
             ∙ ap (λ (z : List (Line Key Value)). tickets-of (follow kind choices sizes empty z .touch)) (r .told);
+        on-the-way = λ m.
+            let ts = take m (r .turns) in
+            let told : log kind choices sizes fresh ts ≡ take m lines = log-take m fresh (r .turns) ∙ ap (take m) (r .told) in
+            let free = free-take m fresh (r .turns) (r .free) in (
+              end kind choices sizes fresh ts,
+              record { turns = ts; told = told; ends = refl; free = free },
+              account kind choices sizes law ts (omega (arith, take-few m (r .turns))) free .in-turn
+                  ∙ ap (λ (z : List (Line Key Value)). tickets-of (follow kind choices sizes empty z .touch)) told,
+            );
       }
 
   -- ---- going on

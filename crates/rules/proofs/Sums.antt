@@ -32,9 +32,9 @@ use Rattle.rules.proofs.Fronts.{tally-append, tally-without, in-tally, first-i
 use Rattle.rules.specs.Agreement.{Coherent, ledger-of}
 use Rattle.rules.proofs.Erasing.{From, in-stays, leave-kept, life-from, idle-from, trim-from, k1, k2, passed-kept}
 use Rattle.rules.proofs.Voting.{verdict-is, run-of, wins}
-use Rattle.rules.proofs.Moves.{tally-take, tally-passing, tally-freeing, tally-looked, among-in, in-among}
+use Rattle.rules.proofs.Telling.{tally-take, tally-passing, tally-freeing, tally-looked, among-in, in-among}
 use Rattle.rules.proofs.Steps.{sketch-kept}
-use Rattle.rules.proofs.Whole.{Stands, fresh-stands, fresh-next, turn-stands, ledger-on}
+use Rattle.rules.proofs.Standing.{Stands, fresh-stands, fresh-next, turn-stands, ledger-on}
 
 module _ {A : Type 0} where
   total-append : (f : A → ℕ) (xs ys : List A) → total f (xs ++ ys) ≡ total f xs + total f ys

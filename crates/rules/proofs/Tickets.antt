@@ -32,8 +32,8 @@ use Rattle.rules.proofs.Fronts.{tally-append, first-in, in-freeing}
 use Rattle.rules.specs.Agreement.{Coherent, ledger-of}
 use Rattle.rules.proofs.Erasing.{passed-kept}
 use Rattle.rules.proofs.Voting.{verdict-is, run-of, wins}
-use Rattle.rules.proofs.Good.{passed-next}
-use Rattle.rules.proofs.Moves.{bears, told-append, told-times, leave-moves, back-moves, single-once, tally-freeing, passes-moves}
+use Rattle.rules.proofs.Rightness.{passed-next}
+use Rattle.rules.proofs.Telling.{bears, told-append, told-times, leave-moves, back-moves, single-once, tally-freeing, passes-moves}
 
 -- an answer hands out no ticket, or the next one
 abbrev pub Handed : {Value : Type 0} → ℕ → Answer Value → ℕ → Type 0

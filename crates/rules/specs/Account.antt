@@ -60,6 +60,10 @@ module _ {Key Value : Type 0} where
   abbrev pub held-tickets : State Key Value → List ℕ
   held-tickets s = map (λ (e : Entry Key Value). e .ticket) (s .touch)
 
+  -- each ticket told has an item in the ledger, as it stands before the call
+  abbrev pub Each-had-item : Ledger Key Value → List Departure → Type 0
+  Each-had-item l ds = (t : ℕ) → times t (told-tickets ds) ≤ times t (tickets-of (l .touch))
+
 -- ---- every hit is in its time; l is the ledger as the call finds it, after its passes
 
 module _ {Key Value : Type 0} (kind : Kind Key Value) (choices : Choices) where
@@ -199,9 +203,7 @@ module _ {Key Value : Type 0} (kind : Kind Key Value) (choices : Choices) (sizes
         (t : Turn Key Value) → Free (state-after ts) t
         → Right (ledger-after ts) (t .call) (line kind choices sizes (state-after ts) t .answer) (line kind choices sizes (state-after ts) t .departures)
     -- and each ticket told has an item just then
-    pub told-held :
-        (t : Turn Key Value) (n : ℕ)
-        → times n (told-tickets (line kind choices sizes (state-after ts) t .departures)) ≤ times n (tickets-of (ledger-after ts .touch))
+    pub told-held : (t : Turn Key Value) → Each-had-item (ledger-after ts) (line kind choices sizes (state-after ts) t .departures)
 
 -- every list of fewer than 2^32 calls on a fresh cache, whatever the clock does
 abbrev pub Account-of : {Key Value : Type 0} → Kind Key Value → Type 0

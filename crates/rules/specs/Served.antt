@@ -2,7 +2,7 @@
 use mathlib.Core.Path.{_≡_}
 use mathlib.Core.List.{List, [], _∷_, _++_}
 use Prim.Native.Nat.{ℕ, _+_, _<_, _≤_, _^_}
-use lib.ListN.{length}
+use lib.ListN.{length, take}
 use Rattle.rules.specs.declared.choices.Choices.{Choices}
 use Rattle.rules.specs.declared.call.Call.{Call}
 use Rattle.rules.specs.Kinds.{Kind, Lawful}
@@ -12,25 +12,21 @@ use Rattle.rules.specs.Calls.{Outcome, step}
 use Rattle.rules.specs.Runs.{Turn, Line, end, log}
 use Rattle.rules.specs.Items.{Ledger, empty, tickets-of}
 use Rattle.rules.specs.Ledger.{handing, entered, follow}
-use Rattle.rules.specs.Account.{Accounted, times, told-tickets, all-told, all-handed, held-tickets, Right, All-free}
+use Rattle.rules.specs.Account.{Accounted, times, told-tickets, all-told, all-handed, held-tickets, Each-had-item, Right, All-free}
 use Rattle.rules.specs.Agreement.{Agrees}
 use Rattle.rules.specs.Limits.{top}
 
 module _ {Key Value : Type 0} (kind : Kind Key Value) (choices : Choices) (sizes : Sizes) where
   -- The ledger l goes through the lines of a log. Before each and after all, the tickets told and handed out so far are
-  -- accounted for; at each, the answer and the departures are right by the ledger as it then stands.
+  -- accounted for; at each, the tickets told have items, and the answer and the
+  -- departures are right by the ledger as it then stands.
   unfoldable pub Through : Ledger Key Value → List ℕ → List ℕ → List (Line Key Value) → Type 0
   Through l told handed [] = Accounted told handed (tickets-of (l .touch))
   Through l told handed (x ∷ xs) =
       Accounted told handed (tickets-of (l .touch))
+      × Each-had-item l (x .departures)
       × Right kind choices sizes l (x .call) (x .answer) (x .departures)
       × Through (entered kind choices sizes l (x .call) (x .answer) (x .departures)) (told ++ told-tickets (x .departures)) (handed ++ handing (x .answer)) xs
-
-  -- A fresh cache with this log, and with this state at its end.
-  pub record Served (lines : List (Line Key Value)) (s : State Key Value) : Type 0 where
-    pub through : Through empty [] [] lines
-    -- the entries held bear the items' tickets in turn
-    pub in-turn : held-tickets s ≡ tickets-of (follow kind choices sizes empty lines .touch)
 
   -- from a state these lines are told, and another state is left, by some turns with cells that were free
   pub record Ran (start : State Key Value) (lines : List (Line Key Value)) (s : State Key Value) : Type 0 where
@@ -38,6 +34,16 @@ module _ {Key Value : Type 0} (kind : Kind Key Value) (choices : Choices) (sizes
     pub told : log kind choices sizes start turns ≡ lines
     pub ends : end kind choices sizes start turns ≡ s
     pub free : All-free kind choices sizes start turns
+
+  -- A fresh cache with this log, and with this state at its end.
+  pub record Served (lines : List (Line Key Value)) (s : State Key Value) : Type 0 where
+    pub through : Through empty [] [] lines
+    -- the entries held bear the items' tickets in turn
+    pub in-turn : held-tickets s ≡ tickets-of (follow kind choices sizes empty lines .touch)
+    -- and so they did after each call on the way
+    pub on-the-way :
+        (n : ℕ)
+        → (then : State Key Value) × Ran fresh (take n lines) then × (held-tickets then ≡ tickets-of (follow kind choices sizes empty (take n lines) .touch))
 
   -- A cache that went on from a ledger that agreed with it: the ledger goes through the lines, and agrees again at their end.
   pub record Went-on (l : Ledger Key Value) (told handed : List ℕ) (lines : List (Line Key Value)) (s : State Key Value) : Type 0 where

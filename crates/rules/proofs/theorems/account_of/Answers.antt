@@ -1,5 +1,5 @@
 use Rattle.rules.specs.Kinds.{Lawful, kind-of}
-use Rattle.rules.proofs.Whole.{account}
+use Rattle.rules.proofs.Standing.{account}
 use Rattle.rules.proofs.theorems.account_of.Needs as need
 
 pub returns : need.returns

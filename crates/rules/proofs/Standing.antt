@@ -19,13 +19,13 @@ use Rattle.rules.specs.Calls.{step}
 use Rattle.rules.specs.Runs.{Turn, Line, after, line, end, log}
 use Rattle.rules.specs.Items.{Item, Ledger, empty, tickets-of}
 use Rattle.rules.specs.Ledger.{handing, entered, follow}
-use Rattle.rules.specs.Account.{times, told-tickets, all-told, all-handed, Right, Free, All-free, held-tickets, Accounted, Account, state-after, log-of, ledger-after}
+use Rattle.rules.specs.Account.{times, told-tickets, all-told, all-handed, Right, Free, All-free, held-tickets, Each-had-item, Accounted, Account, state-after, log-of, ledger-after}
 use Rattle.rules.proofs.Fronts.{tally-append}
 use Rattle.rules.specs.Agreement.{as-item, ledger-of, Coherent}
 use Rattle.rules.proofs.Erasing.{map-again}
 use Rattle.rules.proofs.Hitting.{tally-map}
-use Rattle.rules.proofs.Good.{good}
-use Rattle.rules.proofs.Moves.{bears}
+use Rattle.rules.proofs.Rightness.{good}
+use Rattle.rules.proofs.Telling.{bears}
 use Rattle.rules.proofs.Tickets.{moved}
 
 module _ {Key Value : Type 0} (kind : Kind Key Value) (choices : Choices) (sizes : Sizes) where
@@ -140,6 +140,13 @@ module _ {Key Value : Type 0} (kind : Kind Key Value) (choices : Choices) (sizes
   unfolding ledger-of
   in-turn-of s l e = sym (ap (λ (k : Ledger Key Value). tickets-of (k .touch)) e ∙ map-again (λ (i : Item Key Value). i .ticket) as-item (s .touch))
 
+  -- each ticket told had an item
+  pub had-item : (s : State Key Value) (l : Ledger Key Value) → Coherent kind s → l ≡ ledger-of s → (t : Turn Key Value) → Each-had-item l (line kind choices sizes s t .departures)
+  had-item s l ok same t n =
+      let m = moved kind choices sizes (t .free) s ok (t .call) in
+      let e : times n (held-tickets s) ≡ times n (tickets-of (l .touch)) = ap (times n) (in-turn-of s l same) in
+      omega (arith, m .before n, bears-held s n, e)
+
   pub account : Lawful kind → (ts : List (Turn Key Value)) → length ts < 2 ^ 32 → All-free kind choices sizes fresh ts → Account kind choices sizes ts
   account law ts few fr =
       let r = run-stands law ts fresh empty (λ n. 0) (λ n. 0) fresh-stands (omega (arith, fresh-next)) fr in
@@ -156,8 +163,5 @@ module _ {Key Value : Type 0} (kind : Kind Key Value) (choices : Choices) (sizes
         next-right = λ t f.
             let g = good kind choices sizes (t .free) s (st .ok) law (omega (arith, r .1, fresh-next)) (t .call) f in
             subst (λ (l : Ledger Key Value). Right kind choices sizes l (t .call) (line kind choices sizes s t .answer) (line kind choices sizes s t .departures)) (sym (st .same)) (g .right);
-        told-held = λ t n.
-            let m = moved kind choices sizes (t .free) s (st .ok) (t .call) in
-            let e : times n (held-tickets s) ≡ times n (tickets-of (ledger-after kind choices sizes ts .touch)) = ap (times n) (in-turn-of s (ledger-after kind choices sizes ts) (st .same)) in
-            omega (arith, m .before n, bears-held s n, e);
+        told-held = λ t. had-item s (ledger-after kind choices sizes ts) (st .ok) (st .same) t;
       }
