@@ -59,24 +59,24 @@ module _ {Key Value : Type 0} where
     pub out : Entry Key Value → Bool
     pub left : p .touch ≡ without out (s .touch)
 
-  unchanged : (s : State Key Value) → Thinned s s
+  pub unchanged : (s : State Key Value) → Thinned s s
   unchanged s = record { out = λ e. false; left = without-nobody (s .touch) }
 
-  leave-thins : (s p : State Key Value) (es : List (Entry Key Value)) → Thinned s p → Thinned s (leave es p)
+  pub leave-thins : (s p : State Key Value) (es : List (Entry Key Value)) → Thinned s p → Thinned s (leave es p)
   unfolding leave
   leave-thins s p es t = record {
     out = either (t .out) (λ e. among (cells-of es) (e .cell));
     left = ap (without (λ (e : Entry Key Value). among (cells-of es) (e .cell))) (t .left) ∙ without-both (t .out) (λ e. among (cells-of es) (e .cell)) (s .touch);
   }
 
-  passed-thins : (choices : Choices) (now : ℕ) (s : State Key Value) → Thinned s (passed choices now s)
+  pub passed-thins : (choices : Choices) (now : ℕ) (s : State Key Value) → Thinned s (passed choices now s)
   unfolding passed
   passed-thins choices now s =
       leave-thins s (after-idle choices now s) (trim-pass choices now (after-idle choices now s))
       (leave-thins s (after-life choices now s) (idle-pass choices now (after-life choices now s)) (leave-thins s s (life-pass choices now s) (unchanged s)))
 
   -- those left were there before
-  thinned-in : (s p : State Key Value) → Thinned s p → (e : Entry Key Value) → In e (p .touch) → In e (s .touch)
+  pub thinned-in : (s p : State Key Value) → Thinned s p → (e : Entry Key Value) → In e (p .touch) → In e (s .touch)
   thinned-in s p t e i = in-without (t .out) e (s .touch) (subst (In e) (t .left) i)
 
   -- ---- what a call adds

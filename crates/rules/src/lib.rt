@@ -37,3 +37,4 @@ pub use theorems::goes_on_of;
 pub use theorems::samples_stand;
 pub use theorems::served_of;
 pub use theorems::sums_of;
+pub use theorems::values_of;

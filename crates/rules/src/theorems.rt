@@ -4,6 +4,7 @@ ghost use Rattle.rules.specs.Kinds.{kind-of};
 ghost use Rattle.rules.specs.Samples.{Samples};
 ghost use Rattle.rules.specs.Served.{Fresh-agrees, Goes-on-of, Served-of};
 ghost use Rattle.rules.specs.Sums.{Sums-of};
+ghost use Rattle.rules.specs.Values.{Values-of};
 use kinds::EntryKind;
 
 /// The sample runs come out as the rules have them.
@@ -32,6 +33,13 @@ pub fn served_of<K: EntryKind>() -> u8
 pub fn goes_on_of<K: EntryKind>() -> u8
     ensures goes_on { λ _. ⌜ Goes-on-of (kind-of alike hashed weighs weighed) ⌝ }
     ensures fresh { λ _. ⌜ Fresh-agrees (kind-of alike hashed weighs weighed) ⌝ }
+{
+    0
+}
+
+/// After every list of calls each item's value is the one last taken in under its ticket.
+pub fn values_of<K: EntryKind>() -> u8
+    ensures { λ _. ⌜ Values-of (kind-of alike hashed weighs weighed) ⌝ }
 {
     0
 }
