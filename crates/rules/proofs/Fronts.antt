@@ -1,4 +1,4 @@
--- Members, fronts and counts of plain lists. Assumes nothing.
+-- Members, fronts and counts of plain lists.
 use mathlib.Core.Path.{_≡_, refl, sym, ap, _∙_, subst}
 use mathlib.Core.Logic.{_⊎_, inl, inr}
 use mathlib.Core.Bool.{Bool, true, false, cond}

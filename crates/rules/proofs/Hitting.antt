@@ -1,4 +1,4 @@
--- A get and a question for a key, by the as-item found.
+-- A get and a question for a key, by the item found.
 use mathlib.Core.Path.{_≡_, refl, sym, ap, _∙_, subst}
 use mathlib.Core.Logic.{_⊎_, inl, inr}
 use mathlib.Core.Bool.{Bool, true, false, cond}
@@ -29,11 +29,11 @@ module _ {Key Value : Type 0} (kind : Kind Key Value) (choices : Choices) (l : L
   abbrev mine : Item Key Value → Bool
   mine i = kind .alike (i .key) k
 
-  -- no as-item, none running
+  -- no item, none running
   pub none-running : item-of kind k l ≡ None → (i : Item Key Value) → Running kind choices l k now i → ⊥
   none-running e i r = omega (arith, first-none mine (l .touch) e, in-tally mine i (l .touch) (r .0) (r .1))
 
-  -- the as-item found is the only one that can be running
+  -- the item found is the only one that can be running
   pub only-running : (i : Item Key Value) → item-of kind k l ≡ Some i → (j : Item Key Value) → Running kind choices l k now j → i ≡ j
   only-running i e j r = some-one i j (sym e ∙ in-first mine j (l .touch) (r .0) (r .1) (lone k))
 

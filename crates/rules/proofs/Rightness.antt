@@ -1,4 +1,4 @@
--- A whole call: right by the ledger, which follows.
+-- A whole call is right by the ledger of the state before it, the ledger follows to that of the state after it, and the state stays coherent.
 use mathlib.Core.Path.{_≡_, refl, sym, ap, _∙_, subst}
 use mathlib.Core.Logic.{_⊎_, inl, inr}
 use mathlib.Core.Bool.{Bool, true, false, cond}

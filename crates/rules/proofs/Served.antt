@@ -1,4 +1,4 @@
--- A run, one call after another, and what it promises.
+-- A run is built call by call from what each call promises, and its log is then one that the ledger goes through.
 use mathlib.Core.Path.{_≡_, refl, sym, ap, _∙_, subst}
 use mathlib.Core.List.{List, [], _∷_, _++_, append-assoc}
 use Prim.Native.Nat.{ℕ, zero, suc, _+_, _<_, _≤_, _^_}

@@ -24,7 +24,7 @@ use Rattle.rules.specs.Agreement.{as-item, ticket-of, ledger-of, Coherent}
 use Rattle.rules.proofs.Erasing.{ledger-same, From, leave-erase, life-from, idle-from, trim-from, k1, k2}
 
 module _ {A : Type 0} where
-  without-twice : (p q r : A → Bool) (xs : List A) → ((a : A) → r a ≡ cond (p a) true (q a)) → without r xs ≡ without q (without p xs)
+  pub without-twice : (p q r : A → Bool) (xs : List A) → ((a : A) → r a ≡ cond (p a) true (q a)) → without r xs ≡ without q (without p xs)
   without-twice p q r [] h = refl
   without-twice p q r (x ∷ xs) h =
       let ih = without-twice p q r xs h in
@@ -35,7 +35,7 @@ module _ {A : Type 0} where
             rw (f, e) (elim (cases-bool (q x)) [ inl g ↦ rw g ih | inr g ↦ rw g (ap (λ (l : List A). x ∷ l) ih) ])
       ]
 
-  sum-append : (f : A → ℕ) (xs ys : List A) → total f (xs ++ ys) ≡ total f xs + total f ys
+  pub sum-append : (f : A → ℕ) (xs ys : List A) → total f (xs ++ ys) ≡ total f xs + total f ys
   sum-append f [] ys = omega arith
   sum-append f (x ∷ xs) ys = omega (arith, sum-append f xs ys)
 

@@ -1,4 +1,4 @@
--- Every list of calls.
+-- Over every list of calls the ledger stays that of the state, and each ticket handed out is told or held: the account.
 use mathlib.Core.Path.{_≡_, refl, sym, ap, _∙_, subst}
 use mathlib.Core.Logic.{_⊎_, inl, inr}
 use mathlib.Core.Bool.{Bool, true, false, cond}

@@ -26,7 +26,8 @@ use Rattle.rules.specs.Passes.{expired, cells-of, leave, life-pass, idle-pass,
 use Rattle.rules.specs.Votes.{Verdict, Fits, Outvotes, Loses, none, verdict}
 use Rattle.rules.specs.Calls.{Outcome, outcome, held, got, asked, struck, inserted, came, counted, joined, full, to-back, touch-entry, replace-entry, admit, step}
 use Rattle.rules.specs.Laws.{Stay}
-use Rattle.rules.proofs.Fronts.{some-one, first-in, in-without}
+use Rattle.rules.proofs.Fronts.{first-in, in-without}
+use Rattle.rules.proofs.Settling.{without-twice}
 
 module _ {A : Type 0} where
   -- ---- taken out twice is taken out once
@@ -36,12 +37,7 @@ module _ {A : Type 0} where
 
   without-both : (p q : A → Bool) (xs : List A) → without q (without p xs) ≡ without (either p q) xs
   unfolding either
-  without-both p q [] = refl
-  without-both p q (x ∷ xs) =
-      elim (cases-bool (p x)) [
-        | inl e ↦ rw e (without-both p q xs)
-        | inr e ↦ rw e (elim (cases-bool (q x)) [ inl f ↦ rw f (without-both p q xs) | inr f ↦ rw f (ap (λ (l : List A). x ∷ l) (without-both p q xs)) ])
-      ]
+  without-both p q xs = sym (without-twice p q (either p q) xs (λ a. refl))
 
   without-nobody : (xs : List A) → xs ≡ without (λ a. false) xs
   without-nobody [] = refl

@@ -1,4 +1,4 @@
--- Sums over the entries held.
+-- After every list of calls the recorded weight is the sum of the weights held, and the entry count is how many are held.
 use mathlib.Core.Path.{_≡_, refl, sym, ap, _∙_, subst}
 use mathlib.Core.Logic.{_⊎_, inl, inr}
 use mathlib.Core.Bool.{Bool, true, false, cond, _&&_}
@@ -31,16 +31,13 @@ use Rattle.rules.specs.Sums.{Adds-up, Sums-of}
 use Rattle.rules.proofs.Fronts.{tally-append, tally-without, in-tally, first-in, same-one, in-without, in-append, in-freeing, in-looked}
 use Rattle.rules.specs.Agreement.{Coherent, ledger-of}
 use Rattle.rules.proofs.Erasing.{From, in-stays, leave-kept, life-from, idle-from, trim-from, k1, k2, passed-kept}
+use Rattle.rules.proofs.Settling.{sum-append}
 use Rattle.rules.proofs.Voting.{verdict-is, run-of, wins}
-use Rattle.rules.proofs.Telling.{tally-take, tally-passing, tally-freeing, tally-looked, among-in, in-among}
+use Rattle.rules.proofs.Telling.{in-fails, tally-take, tally-passing, tally-freeing, tally-looked, among-in, in-among}
 use Rattle.rules.proofs.Steps.{sketch-kept}
 use Rattle.rules.proofs.Standing.{Stands, fresh-stands, fresh-next, turn-stands, ledger-on}
 
 module _ {A : Type 0} where
-  total-append : (f : A → ℕ) (xs ys : List A) → total f (xs ++ ys) ≡ total f xs + total f ys
-  total-append f [] ys = omega arith
-  total-append f (x ∷ xs) ys = omega (arith, total-append f xs ys)
-
   length-total : (xs : List A) → length xs ≡ total (λ x. 1) xs
   length-total [] = refl
   length-total (x ∷ xs) = omega (arith, length-total xs)
@@ -87,7 +84,7 @@ module _ {A : Type 0} where
             let apart : (a : A) → In a xs → eqb (num a) (num x) ≡ false = λ a i. ne-eqb (num a) (num x) (λ h.
             let l : 1 + tally (λ y. eqb (num y) (num x)) xs ≤ 1 = rw (eq-eqb (num x) (num x) refl) at (one (num x)) in
             omega (arith, in-tally (λ y. eqb (num y) (num x)) a xs i (eq-eqb (num a) (num x) h))) in
-            let other : (a : A) → In a es′ → eqb (num a) (num x) ≡ false = λ a i. fails (λ y. eqb (num y) (num x)) a es i in
+            let other : (a : A) → In a es′ → eqb (num a) (num x) ≡ false = λ a i. in-fails (λ y. eqb (num y) (num x)) a es i in
             let ih : total f es′ + total f (without q xs) ≡ total f xs =
             out-total f num q xs es′
             (λ a i. elim (from a (in-without (λ y. eqb (num y) (num x)) a es i)) [ inl h ↦ absurd (eqb-false (num a) (num x) (other a i) (ap num h)) | inr j ↦ j ])
@@ -103,14 +100,6 @@ module _ {A : Type 0} where
             tail once (λ a i u. goes a (inr i) u) gone in
             rw t (omega (arith, ih))
       ]
-    where
-      fails : (p : A → Bool) (a : A) (ys : List A) → In a (without p ys) → p a ≡ false
-      fails p a [] i = absurd i
-      fails p a (y ∷ ys) i =
-          elim (cases-bool (p y)) [
-            | inl e ↦ fails p a ys (rw e at i)
-            | inr e ↦ let j : (a ≡ y) ⊎ In a (without p ys) = rw e at i in elim j [ inl h ↦ ap p h ∙ e | inr k ↦ fails p a ys k ]
-          ]
 
   total-bound : (f : A → ℕ) (b : ℕ) (xs : List A) → ((a : A) → In a xs → f a < 2 ^ 32) → length xs ≤ b → total f xs ≤ b * 2 ^ 32
   total-bound f b [] h l = omega arith
@@ -182,7 +171,7 @@ module _ {Key Value : Type 0} where
       back-total : (f : Entry Key Value → ℕ) (e e′ : Entry Key Value) → In e (s .touch) → e′ .cell ≡ e .cell → f e + total f (to-back e′ (s .touch)) ≡ f e′ + total f (s .touch)
       back-total f e e′ here c =
           let a : total f (without (λ (x : Entry Key Value). eqb (x .cell) (e′ .cell)) (s .touch) ++ (e′ ∷ [])) ≡ total f (without (λ (x : Entry Key Value). eqb (x .cell) (e′ .cell)) (s .touch)) + (f e′ + 0) =
-          total-append f (without (λ (x : Entry Key Value). eqb (x .cell) (e′ .cell)) (s .touch)) (e′ ∷ []) in
+          sum-append f (without (λ (x : Entry Key Value). eqb (x .cell) (e′ .cell)) (s .touch)) (e′ ∷ []) in
           let b : f e + total f (without (λ (x : Entry Key Value). eqb (x .cell) (e′ .cell)) (s .touch)) ≡ total f (s .touch) =
           subst (λ (n : ℕ). f e + total f (without (λ (x : Entry Key Value). eqb (x .cell) n) (s .touch)) ≡ total f (s .touch)) (sym c) (total-less f cell-of e (s .touch) here (ok .cells (e .cell))) in
           omega (arith, a, b)
@@ -228,12 +217,12 @@ module _ {Key Value : Type 0} where
       unfolding admit
       admit-sums life e l r =
           let n : length (s .touch ++ (e ∷ [])) ≡ length (s .touch) + 1 =
-          omega (arith, length-total (s .touch ++ (e ∷ [])), length-total (s .touch), total-append unit (s .touch) (e ∷ [])) in
+          omega (arith, length-total (s .touch ++ (e ∷ [])), length-total (s .touch), sum-append unit (s .touch) (e ∷ [])) in
           let light : (x : Entry Key Value) → In x (s .touch ++ (e ∷ [])) → x .weight < 2 ^ 32 =
           λ x i. elim (in-append x (s .touch) (e ∷ []) i) [ inl j ↦ up .light x j | inr j ↦ elim j [ inl h ↦ subst (λ (y : Entry Key Value). y .weight < 2 ^ 32) (sym h) l | inr z ↦ absurd z ] ] in
           let b = bounded (s .touch ++ (e ∷ [])) light (omega (arith, n)) in
           record {
-            recorded = omega (arith, up .recorded, total-append heavy (s .touch) (e ∷ []), b);
+            recorded = omega (arith, up .recorded, sum-append heavy (s .touch) (e ∷ []), b);
             count = omega (arith, up .count, n);
             room = omega (arith, n);
             light = light;

@@ -1,4 +1,4 @@
--- Tickets over a whole call.
+-- Over a whole call the tickets told and those still held are together those held before and the one handed out.
 use mathlib.Core.Path.{_≡_, refl, sym, ap, _∙_, subst}
 use mathlib.Core.Logic.{_⊎_, inl, inr}
 use mathlib.Core.Bool.{Bool, true, false, cond, _&&_}

@@ -20,6 +20,7 @@ use Rattle.rules.specs.Opening.{opening, opening-size}
 use Rattle.rules.specs.Runs.{Turn, Line, end, log}
 use Rattle.kinds.specs.declared.by_serial.Reading.{Reading}
 use Rattle.kinds.specs.declared.by_tag.Log.{Log}
+use Rattle.rules.specs.Account.{All-free}
 use Rattle.rules.specs.Hub.{serials, tags}
 
 -- an answer, with who left
@@ -142,5 +143,7 @@ pub record Samples : Type 0 where
       ∷ says (Replaced 3) ∷ tells Yes (left 4 Trimmed ∷ []) ∷ []
   pub row-10-replaced : tag-end (chosen (Some 100) None None) (take 6 gym-more) .recorded ≡ 135
   pub row-10-recorded : tag-end (chosen (Some 100) None None) gym-more .recorded ≡ 100
+  -- the cells chosen in rows 9 and 10 were free: the premise of the account is met
+  pub cells-free : All-free tags (chosen (Some 100) None None) lent fresh gym-more
   pub row-11 : opening-size true 400 570 1000 ≡ 227
   pub row-11-sample : opening true 256 400 570 (Some 1000) closed .sample ≡ 2270

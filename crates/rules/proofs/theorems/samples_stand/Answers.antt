@@ -1,4 +1,5 @@
 use mathlib.Core.Path.{refl}
+use lib.Dec.{lit≤}
 use lib.Ieee.{size, span, climb}
 use Rattle.sketch.specs.Counters.{counter, raised, counters, packed, halved, odd-ones, odds}
 use Rattle.sketch.specs.Powers.{doubled, least-power}
@@ -12,12 +13,13 @@ use Rattle.rules.specs.Opening.{opening-size, opens, opening}
 use Rattle.rules.specs.Passes.{leave, life-pass, idle-pass, trim-pass, passed, passes-told}
 use Rattle.rules.specs.Votes.{verdict}
 use Rattle.rules.specs.Calls.{touch-entry, replace-entry, admit, step}
+use Rattle.rules.specs.Account.{All-free}
 use Rattle.rules.specs.Runs.{end, log}
 use Rattle.rules.specs.Hub.{serials, tags}
 use Rattle.rules.proofs.theorems.samples_stand.Needs as need
 
 pub returns : need.returns
-unfolding size span climb counter raised counters packed halved odd-ones odds doubled least-power place number held estimate raised-at raised-all rises halved-all odds-all closed frequency opens-over made-for sketches.fresh opened ensured halved-sketch reaches counted outcome after incremented tag-byte tag-bytes joined folded-tag filled-bytes weighed-size opens fresh opening-size opening leave life-pass idle-pass trim-pass passed passes-told touch-entry replace-entry admit verdict step end log serials tags
+unfolding All-free size span climb counter raised counters packed halved odd-ones odds doubled least-power place number held estimate raised-at raised-all rises halved-all odds-all closed frequency opens-over made-for sketches.fresh opened ensured halved-sketch reaches counted outcome after incremented tag-byte tag-bytes joined folded-tag filled-bytes weighed-size opens fresh opening-size opening leave life-pass idle-pass trim-pass passed passes-told touch-entry replace-entry admit verdict step end log serials tags
 returns c = record {
   rows-1-2 = refl;
   row-3 = refl;
@@ -37,6 +39,7 @@ returns c = record {
   row-10 = refl;
   row-10-replaced = refl;
   row-10-recorded = refl;
+  cells-free = (lit≤ tt, (lit≤ tt, (lit≤ tt, (lit≤ tt, (lit≤ tt, (lit≤ tt, (lit≤ tt, tt)))))));
   row-11 = refl;
   row-11-sample = refl;
 }
