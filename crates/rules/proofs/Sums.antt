@@ -343,7 +343,7 @@ module _ {Key Value : Type 0} where
       timely-sums : (now : ℕ) (s : State Key Value) (o : Outcome Key Value) → Adds-up sizes s → Adds-up sizes (o .state) → Adds-up sizes (timely now s o .state)
       timely-sums now s o up h = elim (leb now latest) as (λ b. Adds-up sizes (cond b o (outcome s (Refused BeyondRange) []) .state)) [ true ↦ h | false ↦ up ]
 
-      step-sums : (s : State Key Value) → Coherent kind s → Adds-up sizes s → (c : Call Key Value) → Adds-up sizes (step kind choices sizes free s c .state)
+      pub step-sums : (s : State Key Value) → Coherent kind s → Adds-up sizes s → (c : Call Key Value) → Adds-up sizes (step kind choices sizes free s c .state)
       unfolding step
       step-sums s ok up (Get k now) = timely-sums now s _ up (got-sums (passed choices now s) (passed-kept kind choices now s ok) (passed-sums choices now s ok up) (passes-told choices now s) k now)
       step-sums s ok up (Contains k now) = timely-sums now s _ up (asked-sums (passed choices now s) (passed-kept kind choices now s ok) (passed-sums choices now s ok up) (passes-told choices now s) now (held kind k (passed choices now s)))

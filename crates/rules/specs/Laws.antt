@@ -3,7 +3,7 @@ use mathlib.Core.Path.{_≡_}
 use mathlib.Core.Logic.{_≢_, _⊎_}
 use mathlib.Core.Bool.{Bool, true, false}
 use mathlib.Core.List.{List, [], _∷_, _++_}
-use Prim.Native.Nat.{ℕ, _+_, _-_, _*_, _/_, _^_, _≤_, _<_}
+use Prim.Native.Nat.{ℕ, _+_, _-_, _*_, _/_, _%_, _^_, _≤_, _<_}
 use lib.ListN.{length, take, drop}
 use Rattle.std.specs.declared.option.Option.{Option}
 use Rattle.std.specs.declared.option.Option.the-variants.{Some, None}
@@ -17,6 +17,7 @@ use Rattle.rules.specs.declared.refusal.Refusal.the-variants.{BeyondRange}
 use Rattle.rules.specs.Kinds.{Kind}
 use Rattle.rules.specs.Entries.{Sizes, Entry, State}
 use Rattle.rules.specs.Limits.{plus, fits, within}
+use Rattle.rules.specs.Rounding.{closest}
 use Rattle.rules.specs.Opening.{opening-size, opening}
 use Rattle.rules.specs.Passes.{written, lived-out, idled-out, expired, life-pass, idle-pass, trim-pass}
 use Rattle.rules.specs.Votes.{popularity}
@@ -122,6 +123,16 @@ pub record Opens (weighed : Bool) (words count recorded c : ℕ) (k : Sketch) : 
 -- every sketch
 abbrev pub Opens-once : Type 0
 Opens-once = (weighed : Bool) (words count recorded c : ℕ) (k : Sketch) → Opens weighed words count recorded c k
+
+-- r is a / b to the nearest whole number: at most half away from it, and at a tie even
+pub record Nearest (a b r : ℕ) : Type 0 where
+  pub not-above : r * b * 2 ≤ a * 2 + b
+  pub not-below : a * 2 ≤ r * b * 2 + b
+  pub even-tie : a % b * 2 ≡ b → r % 2 ≡ 0
+
+-- the one step in which the opening's size is rounded
+abbrev pub Rounds-to-nearest : Type 0
+Rounds-to-nearest = (a b : ℕ) → 0 < b → Nearest a b (closest a b)
 
 -- ---- refusals and who stays, over whole calls
 

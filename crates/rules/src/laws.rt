@@ -1,5 +1,5 @@
 //! The laws of what the step and the ledger share, each on the contract of a function of its own.
-ghost use Rattle.rules.specs.Laws.{Passes-clear-fronts, Looking-no-further, Expires-exactly, Fitting-is-exact, Sums-stop, Opens-once, Late-is-refused, Others-stay};
+ghost use Rattle.rules.specs.Laws.{Passes-clear-fronts, Looking-no-further, Expires-exactly, Fitting-is-exact, Sums-stop, Opens-once, Rounds-to-nearest, Late-is-refused, Others-stay};
 
 /// Each pass removes at most 100 and takes a front of its order, and it stops where it must.
 pub fn passes_clear_fronts<Key, Value>() -> u8
@@ -36,9 +36,11 @@ pub fn sums_stop() -> u8
     0
 }
 
-/// The sketch opens once, when half of the capacity is recorded.
+/// The sketch opens once, when half of the capacity is recorded, and its size is rounded to the
+/// nearest number.
 pub fn opens_once() -> u8
-    ensures { λ _. ⌜ Opens-once ⌝ }
+    ensures once { λ _. ⌜ Opens-once ⌝ }
+    ensures rounded { λ _. ⌜ Rounds-to-nearest ⌝ }
 {
     0
 }
