@@ -1,20 +1,18 @@
 -- Each pass takes a front of its order, at most 100, and stops where it must; and the shortest run that frees a weight is the least popular one.
 use mathlib.Core.Path.{_≡_, refl, sym, ap, _∙_, subst}
 use mathlib.Core.Logic.{_⊎_, inl, inr}
-use mathlib.Core.Bool.{Bool, true, false, cond}
+use mathlib.Core.Bool.{Bool, true, false}
 use mathlib.Core.List.{List, [], _∷_}
-use Prim.Native.Nat.{ℕ, zero, suc, _+_, _-_, _<_, _≤_, min}
+use Prim.Native.Nat.{ℕ, zero, suc, _-_, _<_, _≤_}
 use native.Mathlib.Omega.{arith}
 use lib.ListN.{length, take, drop}
 use lib.Dec.{eqb}
-use Rattle.std.proofs.shelf.Tests.{cases-bool, eqb-true, eqb-false, both-ways, cases-lt}
-use Rattle.std.specs.declared.option.Option.{Option}
-use Rattle.std.specs.declared.option.Option.the-variants.{Some, None}
+use Rattle.std.proofs.shelf.Tests.{cases-bool, eqb-true, eqb-false, cases-lt}
 use Rattle.sketch.specs.Sketches.{Sketch, frequency}
 use Rattle.rules.specs.Fronts.{total, passing, freeing, In}
 use Rattle.rules.specs.declared.choices.Choices.{Choices}
 use Rattle.rules.specs.Entries.{Entry, State}
-use Rattle.rules.specs.Limits.{excess, batch}
+use Rattle.rules.specs.Limits.{batch}
 use Rattle.rules.specs.Passes.{written, lived-out, idled-out, life-pass, idle-pass, trim-pass}
 use Rattle.rules.specs.Laws.{Clears, Trims, Passes-clear, Least-run}
 use Rattle.rules.proofs.Fronts.{in-take}

@@ -1,29 +1,26 @@
 -- A state without its cells and hashes is a ledger, and each part of a call does the same to both.
-use mathlib.Core.Path.{_≡_, refl, sym, ap, _∙_, subst}
-use mathlib.Core.Logic.{_⊎_, inl, inr}
+use mathlib.Core.Path.{_≡_, refl, sym, ap, _∙_}
+use mathlib.Core.Logic.{inl, inr}
 use mathlib.Core.Bool.{Bool, true, false, cond}
 use mathlib.Core.List.{List, [], _∷_, _++_, map}
-use Prim.Native.Nat.{ℕ, zero, suc, _+_, _-_, _<_, _≤_}
+use Prim.Native.Nat.{ℕ, _+_, _-_}
 use native.Mathlib.Omega.{arith}
-use lib.ListN.{length, take}
+use lib.ListN.{take}
 use lib.Dec.{eqb}
 use Rattle.std.proofs.shelf.Tests.{cases-bool, eqb-true, eqb-false, eq-eqb, ne-eqb, both-ways}
-use Rattle.std.proofs.shelf.Lists.{take-map, length-map, map-append}
-use Rattle.std.specs.declared.option.Option.{Option}
-use Rattle.std.specs.declared.option.Option.the-variants.{Some, None}
-use Rattle.rules.specs.Fronts.{total, without, passing, freeing, first, among, ahead, looked, In, tally}
+use Rattle.std.proofs.shelf.Lists.{take-map, length-map}
+use Rattle.rules.specs.Fronts.{without, passing, freeing, among, In}
 use Rattle.sketch.specs.Sketches.{Sketch}
 use Rattle.rules.specs.declared.choices.Choices.{Choices}
 use Rattle.rules.specs.declared.departure.Cause.{Cause}
-use Rattle.rules.specs.declared.departure.Cause.the-variants.{LivedOut, IdledOut, Trimmed, Outvoted, StruckOut, SweptOut}
-use Rattle.rules.specs.declared.departure.Departure.{Departure}
-use Rattle.rules.specs.Kinds.{Kind, Lawful}
+use Rattle.rules.specs.declared.departure.Cause.the-variants.{LivedOut, IdledOut, Trimmed}
+use Rattle.rules.specs.Kinds.{Kind}
 use Rattle.rules.specs.Entries.{Entry, State}
-use Rattle.rules.specs.Limits.{excess, batch}
+use Rattle.rules.specs.Limits.{excess}
 use Rattle.rules.specs.Passes.{cells-of, leave, told, written, lived-out, idled-out, life-pass, idle-pass, trim-pass, after-life, after-idle, passed, passes-told}
 use Rattle.rules.specs.Items.{Item, Ledger, tickets-of, telling, remove, in-write-order, outlived, idle-over, by-life, by-idle, by-trim, past-life, past-idle, clearing}
 use Rattle.rules.specs.Agreement.{as-item, ticket-of, ledger-of, Coherent}
-use Rattle.rules.proofs.Fronts.{tally-without, tally-less, in-first, same-one, in-without, in-take, in-passing, in-freeing, in-looked, looked-without, map-without, map-passing, map-freeing, map-total, looked-again}
+use Rattle.rules.proofs.Fronts.{tally-without, same-one, in-without, in-take, in-passing, in-freeing, in-looked, looked-without, map-without, map-passing, map-freeing, map-total, looked-again}
 
 pub map-again : {A B C : Type 0} (g : B → C) (f : A → B) (xs : List A) → map g (map f xs) ≡ map (λ a. g (f a)) xs
 map-again g f [] = refl

@@ -1,9 +1,8 @@
 -- Times, fitting, sums and the opening are exact at their bounds.
-use mathlib.Core.Path.{_≡_, refl, sym, ap, _∙_, subst}
-use mathlib.Core.Logic.{_⊎_, inl, inr}
-use mathlib.Core.Bool.{Bool, true, false, cond, _&&_, _||_}
-use mathlib.Core.List.{List, [], _∷_}
-use Prim.Native.Nat.{ℕ, zero, suc, _+_, _-_, _*_, _/_, _<_, _≤_, _^_, min}
+use mathlib.Core.Path.{_≡_, refl, ap, _∙_}
+use mathlib.Core.Logic.{inl, inr}
+use mathlib.Core.Bool.{Bool, false}
+use Prim.Native.Nat.{ℕ, zero, suc, _+_, _-_, _*_, _/_, _<_}
 use native.Mathlib.Omega.{arith}
 use lib.ListN.{length}
 use lib.Dec.{eqb, leb, ltb}
@@ -11,13 +10,12 @@ use Rattle.std.proofs.shelf.Tests.{cases-bool, le-leb, lt-leb, lt-ltb, eq-eqb, 
 use Rattle.std.specs.declared.option.Option.{Option}
 use Rattle.std.specs.declared.option.Option.the-variants.{Some, None}
 use Rattle.sketch.specs.Powers.{doubled, least-power}
-use Rattle.sketch.specs.Sketches.{Sketch, made-for, opens-over, opened, ensured}
+use Rattle.sketch.specs.Sketches.{Sketch, made-for, opens-over, ensured}
 use Rattle.times.specs.Expiry as times
 use Rattle.rules.specs.declared.choices.Choices.{Choices}
 use Rattle.rules.specs.Entries.{Entry}
-use Rattle.rules.specs.Limits.{top, plus}
 use Rattle.rules.specs.Opening.{opening-size, opens, opening}
-use Rattle.rules.specs.Passes.{lived-out, idled-out, expired}
+use Rattle.rules.specs.Passes.{expired}
 use Rattle.rules.specs.Laws.{Expires, Fits-exactly, Sum-stops, Opens}
 
 -- a time that still runs is not over

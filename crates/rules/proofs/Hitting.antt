@@ -1,20 +1,15 @@
 -- A get and a question for a key, by the item found.
-use mathlib.Core.Path.{_≡_, refl, sym, ap, _∙_, subst}
-use mathlib.Core.Logic.{_⊎_, inl, inr}
+use mathlib.Core.Path.{_≡_, refl, sym, ap, _∙_}
 use mathlib.Core.Bool.{Bool, true, false, cond}
-use mathlib.Core.List.{List, [], _∷_, _++_, map}
-use Prim.Native.Nat.{ℕ, zero, suc, _+_, _-_, _<_, _≤_}
+use mathlib.Core.List.{List, [], _∷_, map}
+use Prim.Native.Nat.{ℕ, _+_, _-_, _≤_}
 use native.Mathlib.Omega.{arith}
-use lib.Dec.{eqb}
-use Rattle.std.proofs.shelf.Tests.{cases-bool, both-ways}
-use Rattle.std.specs.declared.option.Option.{Option}
+use Rattle.std.proofs.shelf.Tests.{both-ways}
 use Rattle.std.specs.declared.option.Option.the-variants.{Some, None}
-use Rattle.rules.specs.Fronts.{first, In, tally}
+use Rattle.rules.specs.Fronts.{tally}
 use Rattle.rules.specs.declared.choices.Choices.{Choices}
-use Rattle.rules.specs.declared.answer.Answer.{Answer}
-use Rattle.rules.specs.declared.answer.Answer.the-variants.{Hit, Miss, Yes, No, New, Replaced, TurnedAway, Struck, Absent, Swept, Refused}
+use Rattle.rules.specs.declared.answer.Answer.the-variants.{Hit, Miss}
 use Rattle.rules.specs.Kinds.{Kind}
-use Rattle.rules.specs.Entries.{Sizes, Entry, State}
 use Rattle.rules.specs.Items.{Item, Ledger, lapsed}
 use Rattle.rules.specs.Ledger.{item-of}
 use Rattle.rules.specs.Account.{Running, Hits-right}

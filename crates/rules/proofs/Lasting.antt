@@ -2,21 +2,21 @@
 -- the value of one that was there; or it takes one in, which goes last, and the others were there.
 use mathlib.Core.Path.{_≡_, refl, sym, ap, _∙_, subst}
 use mathlib.Core.Logic.{_⊎_, inl, inr}
-use mathlib.Core.Bool.{Bool, true, false, cond, _&&_}
+use mathlib.Core.Bool.{Bool, true, false, _&&_}
 use mathlib.Core.List.{List, [], _∷_, _++_, map}
-use Prim.Native.Nat.{ℕ, zero, suc, _+_, _<_, _≤_, _^_}
+use Prim.Native.Nat.{ℕ, _+_, _<_, _≤_}
 use native.Mathlib.Omega.{arith}
 use lib.ListN.{length}
 use lib.Dec.{eqb, leb}
-use Rattle.std.proofs.shelf.Tests.{cases-bool, eq-eqb, ne-eqb, eqb-true, both-ways}
+use Rattle.std.proofs.shelf.Tests.{cases-bool, eq-eqb, ne-eqb}
 use Rattle.std.specs.declared.option.Option.{Option}
 use Rattle.std.specs.declared.option.Option.the-variants.{Some, None}
-use Rattle.rules.specs.Fronts.{without, among, In, tally}
+use Rattle.rules.specs.Fronts.{without, In, tally}
 use Rattle.rules.specs.declared.choices.Choices.{Choices}
 use Rattle.rules.specs.declared.call.Call.{Call}
 use Rattle.rules.specs.declared.call.Call.the-variants.{Get, Contains, Insert, Invalidate, InvalidateAll}
 use Rattle.rules.specs.declared.answer.Answer.{Answer}
-use Rattle.rules.specs.declared.answer.Answer.the-variants.{Hit, Miss, Yes, No, New, Replaced, TurnedAway, Struck, Absent, Swept, Refused}
+use Rattle.rules.specs.declared.answer.Answer.the-variants.{Miss, Yes, No, TurnedAway, Struck, Absent, Refused}
 use Rattle.rules.specs.declared.refusal.Refusal.the-variants.{BeyondRange, NoCell}
 use Rattle.rules.specs.declared.departure.Departure.{Departure}
 use Rattle.rules.specs.Kinds.{Kind, Lawful}
@@ -25,10 +25,9 @@ use Rattle.rules.specs.Limits.{latest, top}
 use Rattle.rules.specs.Passes.{leave, expired, passed, passes-told}
 use Rattle.rules.specs.Votes.{Verdict, Fits, Outvotes, Loses, none, verdict}
 use Rattle.rules.specs.Items.{Item, Ledger, empty}
-use Rattle.rules.specs.Calls.{Outcome, outcome, held, got, asked, struck, inserted, came, counted, full, to-back, touch-entry, replace-entry, admit, newcomer, step}
-use Rattle.rules.specs.Runs.{Turn, Line, after, line, end, log}
-use Rattle.rules.specs.Ledger.{follow}
-use Rattle.rules.specs.Account.{times, Free, All-free, log-of, ledger-after, state-after}
+use Rattle.rules.specs.Calls.{Outcome, outcome, held, got, asked, struck, inserted, came, counted, full, touch-entry, replace-entry, admit, newcomer, step}
+use Rattle.rules.specs.Runs.{Turn, after, line, end, log}
+use Rattle.rules.specs.Account.{All-free, log-of, state-after}
 use Rattle.rules.specs.Agreement.{as-item, ledger-of, Coherent}
 use Rattle.rules.specs.Values.{value-given, ticket-given, taken-at, last-taken, Values-of}
 use Rattle.rules.proofs.Fronts.{in-without, in-append, in-tally, tally-append, first-in}

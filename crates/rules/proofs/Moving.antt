@@ -3,24 +3,21 @@ use mathlib.Core.Path.{_≡_, refl, sym, ap, _∙_, subst}
 use mathlib.Core.Logic.{_⊎_, inl, inr}
 use mathlib.Core.Bool.{Bool, true, false, cond}
 use mathlib.Core.List.{List, [], _∷_, _++_, map}
-use Prim.Native.Nat.{ℕ, zero, suc, _+_, _-_, _<_, _≤_, min}
+use Prim.Native.Nat.{ℕ, zero, suc, _+_, _-_, _<_, _≤_}
 use native.Mathlib.Omega.{arith}
-use lib.ListN.{length, take}
 use lib.Dec.{eqb}
 use Rattle.std.proofs.shelf.Tests.{cases-bool, cases-lt, eqb-true, eqb-false, eq-eqb, ne-eqb, both-ways}
 use Rattle.std.proofs.shelf.Lists.{map-append}
 use Rattle.std.specs.declared.option.Option.{Option}
 use Rattle.std.specs.declared.option.Option.the-variants.{Some, None}
 use Rattle.rules.specs.Fronts.{without, first, among, ahead, looked, In, tally}
-use Rattle.sketch.specs.Sketches.{Sketch}
-use Rattle.rules.specs.declared.choices.Choices.{Choices}
 use Rattle.rules.specs.Kinds.{Kind, Lawful}
 use Rattle.rules.specs.Entries.{Entry, State}
-use Rattle.rules.specs.Limits.{top, kept, plus}
-use Rattle.rules.specs.Passes.{cells-of, written}
-use Rattle.rules.specs.Calls.{to-back, touched-at, rewritten, touch-entry, replace-entry, admit, newcomer, with-sketch, held}
-use Rattle.rules.specs.Items.{Item, Ledger, last, touch-item, replace-item, add-item, sketching}
-use Rattle.rules.proofs.Fronts.{none-some, some-one, tally-append, tally-without, tally-less, tally-mono, in-tally, tally-in, first-in, first-none, in-first, in-without, in-append, in-looked, seen, map-without}
+use Rattle.rules.specs.Limits.{top, kept}
+use Rattle.rules.specs.Passes.{written}
+use Rattle.rules.specs.Calls.{to-back, touched-at, rewritten, touch-entry, replace-entry, admit, newcomer, held}
+use Rattle.rules.specs.Items.{Item, last, touch-item, replace-item, add-item}
+use Rattle.rules.proofs.Fronts.{none-some, tally-append, tally-without, tally-less, tally-mono, in-tally, tally-in, first-in, first-none, in-first, in-without, in-append, in-looked, seen, map-without}
 use Rattle.rules.specs.Agreement.{as-item, ticket-of, ledger-of, Coherent}
 use Rattle.rules.proofs.Erasing.{ledger-same, same-ids, in-stays, among-without}
 

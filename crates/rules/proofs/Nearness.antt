@@ -1,11 +1,10 @@
 -- Rounding goes to the nearest whole number, and at a tie to the even one.
-use mathlib.Core.Path.{_≡_, refl, sym, ap, _∙_, subst}
+use mathlib.Core.Path.{_≡_, refl, sym, ap, _∙_}
 use mathlib.Core.Logic.{_⊎_, inl, inr}
-use mathlib.Core.Bool.{true, false}
 use Prim.Native.Nat.{ℕ, zero, suc, _+_, _*_, _/_, _%_, _<_, _≤_, compare, Ordering, Ordering·lt, Ordering·eq, Ordering·gt}
 use native.Mathlib.Nat as nat
 use native.Mathlib.Omega.{arith}
-use lib.Dec.{eqb, leb, isLe, isEq}
+use lib.Dec.{isLe, isEq}
 use lib.Ieee.{nearest}
 use Rattle.std.proofs.shelf.Tests.{leb-true, leb-false, eqb-true, eqb-false}
 use Rattle.rules.specs.Laws.{Nearest}

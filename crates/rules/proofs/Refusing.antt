@@ -1,11 +1,10 @@
 -- A call is refused for its instant exactly where the instant is too late, and then nothing changes.
-use mathlib.Core.Path.{_≡_, refl, sym, ap, _∙_, subst}
-use mathlib.Core.Logic.{_≢_, _⊎_, inl, inr}
-use mathlib.Core.Bool.{Bool, true, false, cond, _&&_}
-use mathlib.Core.List.{List, [], _∷_, _++_}
-use Prim.Native.Nat.{ℕ, _<_, _≤_, _^_}
+use mathlib.Core.Path.{_≡_, sym, ap, _∙_, subst}
+use mathlib.Core.Logic.{inl, inr}
+use mathlib.Core.Bool.{_&&_}
+use mathlib.Core.List.{List}
+use Prim.Native.Nat.{ℕ, _≤_, _^_}
 use native.Mathlib.Omega.{arith}
-use lib.Dec.{leb}
 use Rattle.std.proofs.shelf.Tests.{cases-bool, le-leb, lt-leb}
 use Rattle.std.specs.declared.option.Option.{Option}
 use Rattle.std.specs.declared.option.Option.the-variants.{Some, None}
@@ -14,7 +13,6 @@ use Rattle.rules.specs.declared.call.Call.{Call}
 use Rattle.rules.specs.declared.call.Call.the-variants.{Get, Contains, Insert, Invalidate, InvalidateAll}
 use Rattle.rules.specs.declared.answer.Answer.{Answer}
 use Rattle.rules.specs.declared.answer.Answer.the-variants.{Hit, Miss, Yes, No, New, Replaced, TurnedAway, Struck, Absent, Swept, Refused}
-use Rattle.rules.specs.declared.refusal.Refusal.the-variants.{BeyondRange, NoCell}
 use Rattle.rules.specs.declared.departure.Departure.{Departure}
 use Rattle.rules.specs.Numbers.{refusal-number}
 use Rattle.rules.specs.Kinds.{Kind}
@@ -22,7 +20,7 @@ use Rattle.rules.specs.Entries.{Sizes, Entry, State}
 use Rattle.rules.specs.Limits.{latest}
 use Rattle.rules.specs.Passes.{expired, passed, passes-told}
 use Rattle.rules.specs.Votes.{Verdict, Fits, Outvotes, Loses, none, verdict}
-use Rattle.rules.specs.Calls.{Outcome, outcome, timely, held, got, asked, struck, inserted, came, counted, full, step}
+use Rattle.rules.specs.Calls.{Outcome, timely, held, got, asked, struck, inserted, came, counted, full, step}
 use Rattle.rules.specs.Laws.{instant-of, Late}
 use Rattle.rules.proofs.Fronts.{none-some, some-one}
 

@@ -1,37 +1,31 @@
 -- A whole call is right by the ledger of the state before it, the ledger follows to that of the state after it, and the state stays coherent.
 use mathlib.Core.Path.{_≡_, refl, sym, ap, _∙_, subst}
-use mathlib.Core.Logic.{_⊎_, inl, inr}
-use mathlib.Core.Bool.{Bool, true, false, cond}
-use mathlib.Core.List.{List, [], _∷_, _++_, map}
-use Prim.Native.Nat.{ℕ, zero, suc, _+_, _-_, _<_, _≤_}
+use mathlib.Core.Logic.{inl, inr}
+use mathlib.Core.Bool.{false}
+use mathlib.Core.List.{List, [], _++_}
+use Prim.Native.Nat.{ℕ, _+_, _-_, _<_, _≤_}
 use native.Mathlib.Omega.{arith}
-use lib.ListN.{length, take}
-use lib.Dec.{eqb, leb}
+use lib.Dec.{leb}
 use Rattle.std.proofs.shelf.Tests.{cases-bool, both-ways}
-use Rattle.std.proofs.shelf.Lists.{length-append, append-nil}
-use Rattle.std.specs.declared.option.Option.{Option}
-use Rattle.std.specs.declared.option.Option.the-variants.{Some, None}
-use Rattle.rules.specs.Fronts.{In, tally}
+use Rattle.std.proofs.shelf.Lists.{append-nil}
 use Rattle.rules.specs.declared.choices.Choices.{Choices}
 use Rattle.rules.specs.declared.call.Call.{Call}
 use Rattle.rules.specs.declared.call.Call.the-variants.{Get, Contains, Insert, Invalidate, InvalidateAll}
-use Rattle.rules.specs.declared.answer.Answer.{Answer}
-use Rattle.rules.specs.declared.answer.Answer.the-variants.{Hit, Miss, Yes, No, New, Replaced, TurnedAway, Struck, Absent, Swept, Refused}
-use Rattle.rules.specs.declared.departure.Cause.{Cause}
+use Rattle.rules.specs.declared.answer.Answer.the-variants.{Yes, No}
 use Rattle.rules.specs.declared.departure.Cause.the-variants.{LivedOut, IdledOut, Trimmed, SweptOut}
 use Rattle.rules.specs.declared.departure.Departure.{Departure}
 use Rattle.rules.specs.Kinds.{Kind, Lawful}
-use Rattle.rules.specs.Entries.{Sizes, Entry, State}
+use Rattle.rules.specs.Entries.{Sizes, State}
 use Rattle.rules.specs.Limits.{top, latest}
 use Rattle.rules.specs.Passes.{life-pass, idle-pass, trim-pass, after-life, after-idle, told, cells-of, passed, passes-told, leave}
 use Rattle.rules.specs.Calls.{Outcome, held, got, asked, struck, inserted, counted, step}
-use Rattle.rules.specs.Items.{Item, Ledger, telling, clearing, sweep-items}
+use Rattle.rules.specs.Items.{Item, Ledger, clearing, sweep-items}
 use Rattle.rules.specs.Ledger.{is-outvoted, item-of, is-hit, takes-in, counting, settled, outvoted, upon-get, upon-insert, upon-invalidate, entered}
 use Rattle.rules.specs.Account.{times, Running, Hits-right, Insert-right, Invalidate-right, Right}
 use Rattle.rules.specs.Agreement.{as-item, ledger-of, Coherent}
 use Rattle.rules.proofs.Erasing.{map-again, passed-kept, told-same}
 use Rattle.rules.proofs.Settling.{told-by-append, told-no, settled-erase}
-use Rattle.rules.proofs.Steps.{Got, got-right, Asked, asked-right, Gone, struck-right, Came, inserted-right}
+use Rattle.rules.proofs.Steps.{got-right, asked-right, struck-right, inserted-right}
 
 module _ {Key Value : Type 0} (kind : Kind Key Value) (choices : Choices) (sizes : Sizes) (free : ℕ) where
   pub record Good (s : State Key Value) (c : Call Key Value) (o : Outcome Key Value) : Type 0 where

@@ -1,6 +1,6 @@
 -- A run is built call by call from what each call promises, and its log is then one that the ledger goes through.
 use mathlib.Core.Path.{_≡_, refl, sym, ap, _∙_, subst}
-use mathlib.Core.List.{List, [], _∷_, _++_, append-assoc}
+use mathlib.Core.List.{List, [], _∷_, _++_}
 use Prim.Native.Nat.{ℕ, zero, suc, _+_, _<_, _≤_, _^_}
 use native.Mathlib.Omega.{arith}
 use lib.ListN.{length, take}
@@ -16,8 +16,8 @@ use Rattle.rules.specs.Passes.{cells-of}
 use Rattle.rules.specs.Calls.{Outcome}
 use Rattle.rules.specs.Runs.{Turn, Line, after, line, end, log}
 use Rattle.rules.specs.Items.{Ledger, empty, tickets-of}
-use Rattle.rules.specs.Ledger.{handing, entered, follow}
-use Rattle.rules.specs.Account.{Accounted, times, told-tickets, all-told, all-handed, held-tickets, Right, Free, All-free, Account}
+use Rattle.rules.specs.Ledger.{handing, follow}
+use Rattle.rules.specs.Account.{Accounted, times, told-tickets, all-told, all-handed, held-tickets, Right, Free, All-free}
 use Rattle.rules.specs.Served.{Through, Served, Ran, Does, Went-on}
 use Rattle.rules.specs.Agreement.{Agrees}
 use Rattle.rules.proofs.Fronts.{tally-append}

@@ -1,25 +1,22 @@
 -- Over every list of calls the ledger stays that of the state, and each ticket handed out is told or held: the account.
 use mathlib.Core.Path.{_≡_, refl, sym, ap, _∙_, subst}
-use mathlib.Core.Logic.{_⊎_, inl, inr}
-use mathlib.Core.Bool.{Bool, true, false, cond}
-use mathlib.Core.List.{List, [], _∷_, _++_, map}
-use Prim.Native.Nat.{ℕ, zero, suc, _+_, _-_, _<_, _≤_, _^_, min}
+use mathlib.Core.Logic.{inl, inr}
+use mathlib.Core.Bool.{false, cond}
+use mathlib.Core.List.{List, [], _∷_, _++_}
+use Prim.Native.Nat.{ℕ, _+_, _-_, _<_, _≤_, _^_}
 use native.Mathlib.Omega.{arith}
 use lib.ListN.{length}
 use lib.Dec.{eqb}
 use Rattle.std.proofs.shelf.Tests.{cases-bool, both-ways, eqb-true, ne-eqb}
-use Rattle.rules.specs.Fronts.{In, tally}
+use Rattle.rules.specs.Fronts.{tally}
 use Rattle.rules.specs.declared.choices.Choices.{Choices}
-use Rattle.rules.specs.declared.departure.Departure.{Departure}
 use Rattle.rules.specs.Kinds.{Kind, Lawful}
 use Rattle.rules.specs.Entries.{Sizes, Entry, State, fresh}
 use Rattle.rules.specs.Limits.{top}
-use Rattle.rules.specs.Passes.{cells-of}
-use Rattle.rules.specs.Calls.{step}
 use Rattle.rules.specs.Runs.{Turn, Line, after, line, end, log}
 use Rattle.rules.specs.Items.{Item, Ledger, empty, tickets-of}
 use Rattle.rules.specs.Ledger.{handing, entered, follow}
-use Rattle.rules.specs.Account.{times, told-tickets, all-told, all-handed, Right, Free, All-free, held-tickets, Each-had-item, Accounted, Account, state-after, log-of, ledger-after}
+use Rattle.rules.specs.Account.{times, told-tickets, all-told, all-handed, Right, Free, All-free, held-tickets, Each-had-item, Account, state-after, ledger-after}
 use Rattle.rules.proofs.Fronts.{tally-append}
 use Rattle.rules.specs.Agreement.{as-item, ledger-of, Coherent}
 use Rattle.rules.proofs.Erasing.{map-again}

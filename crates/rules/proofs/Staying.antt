@@ -1,17 +1,16 @@
 -- A call takes some out of the touch order, leaves the others as they are and in their order, and puts at most one more last.
 use mathlib.Core.Path.{_≡_, refl, sym, ap, _∙_, subst}
-use mathlib.Core.Logic.{_≢_, _⊎_, inl, inr}
+use mathlib.Core.Logic.{_⊎_, inl, inr}
 use mathlib.Core.Bool.{Bool, true, false, cond, _&&_}
 use mathlib.Core.List.{List, [], _∷_, _++_}
-use Prim.Native.Nat.{ℕ, zero, suc, _+_, _-_, _<_, _≤_, _^_}
+use Prim.Native.Nat.{ℕ, _+_, _-_}
 use native.Mathlib.Omega.{arith}
-use lib.ListN.{length}
 use lib.Dec.{eqb, leb}
-use Rattle.std.proofs.shelf.Tests.{cases-bool, le-leb, lt-leb, both-ways}
+use Rattle.std.proofs.shelf.Tests.{cases-bool}
 use Rattle.std.proofs.shelf.Lists.{append-nil}
 use Rattle.std.specs.declared.option.Option.{Option}
 use Rattle.std.specs.declared.option.Option.the-variants.{Some, None}
-use Rattle.rules.specs.Fronts.{without, among, first, In}
+use Rattle.rules.specs.Fronts.{without, among, In}
 use Rattle.rules.specs.declared.choices.Choices.{Choices}
 use Rattle.rules.specs.declared.call.Call.{Call}
 use Rattle.rules.specs.declared.call.Call.the-variants.{Get, Contains, Insert, Invalidate, InvalidateAll}
@@ -24,7 +23,7 @@ use Rattle.rules.specs.Entries.{Sizes, Entry, State}
 use Rattle.rules.specs.Limits.{latest}
 use Rattle.rules.specs.Passes.{expired, cells-of, leave, life-pass, idle-pass, trim-pass, after-life, after-idle, passed, passes-told}
 use Rattle.rules.specs.Votes.{Verdict, Fits, Outvotes, Loses, none, verdict}
-use Rattle.rules.specs.Calls.{Outcome, outcome, held, got, asked, struck, inserted, came, counted, joined, full, to-back, touch-entry, replace-entry, admit, step}
+use Rattle.rules.specs.Calls.{outcome, held, got, asked, struck, inserted, came, counted, full, to-back, touch-entry, replace-entry, admit, step}
 use Rattle.rules.specs.Laws.{Stay}
 use Rattle.rules.proofs.Fronts.{first-in, in-without}
 use Rattle.rules.proofs.Settling.{without-twice}

@@ -1,32 +1,30 @@
 -- Each call, after its passes: what it answers is right by the ledger, and the ledger follows.
 use mathlib.Core.Path.{_≡_, refl, sym, ap, _∙_, subst}
-use mathlib.Core.Logic.{_⊎_, inl, inr}
+use mathlib.Core.Logic.{inl, inr}
 use mathlib.Core.Bool.{Bool, true, false, cond, _&&_}
 use mathlib.Core.List.{List, [], _∷_, _++_, map}
-use Prim.Native.Nat.{ℕ, zero, suc, _+_, _-_, _<_, _≤_}
+use Prim.Native.Nat.{ℕ, _+_, _-_, _<_, _≤_}
 use native.Mathlib.Omega.{arith}
-use lib.ListN.{length, take}
-use lib.Dec.{eqb, leb}
+use lib.ListN.{length}
+use lib.Dec.{eqb}
 use Rattle.std.proofs.shelf.Tests.{cases-bool, both-ways, and-parts, and-cases, leb-true, leb-false, eq-eqb}
 use Rattle.std.proofs.shelf.Lists.{length-map, append-nil}
 use Rattle.std.specs.declared.option.Option.{Option}
 use Rattle.std.specs.declared.option.Option.the-variants.{Some, None}
-use Rattle.rules.specs.Fronts.{looked, first, freeing, among, without, In, tally}
+use Rattle.rules.specs.Fronts.{looked, among, without, In, tally}
 use Rattle.sketch.specs.Sketches.{Sketch}
 use Rattle.rules.specs.declared.choices.Choices.{Choices}
-use Rattle.rules.specs.declared.answer.Answer.{Answer}
-use Rattle.rules.specs.declared.answer.Answer.the-variants.{Hit, Miss, Yes, No, New, Replaced, TurnedAway, Struck, Absent, Swept, Refused}
-use Rattle.rules.specs.declared.refusal.Refusal.the-variants.{BeyondRange, NoCell}
-use Rattle.rules.specs.declared.departure.Cause.{Cause}
+use Rattle.rules.specs.declared.answer.Answer.the-variants.{Yes, No, New, Replaced, TurnedAway, Struck, Absent, Refused}
+use Rattle.rules.specs.declared.refusal.Refusal.the-variants.{NoCell}
 use Rattle.rules.specs.declared.departure.Cause.the-variants.{Outvoted, StruckOut}
 use Rattle.rules.specs.declared.departure.Departure.{Departure}
 use Rattle.rules.specs.Kinds.{Kind, Lawful}
 use Rattle.rules.specs.Entries.{Sizes, Entry, State}
 use Rattle.rules.specs.Limits.{top}
 use Rattle.rules.specs.Passes.{expired, leave, told, cells-of}
-use Rattle.rules.specs.Votes.{verdict, Verdict, Fits, Outvotes, Loses, none}
-use Rattle.rules.specs.Calls.{Outcome, with-sketch, held, got, asked, struck, inserted, came, counted, touch-entry, replace-entry, admit, joined, opened-sketch, newcomer, full}
-use Rattle.rules.specs.Items.{Item, Ledger, lapsed, telling, touch-item, replace-item, add-item, remove}
+use Rattle.rules.specs.Votes.{verdict, Fits, Outvotes, Loses, none}
+use Rattle.rules.specs.Calls.{Outcome, with-sketch, held, got, asked, struck, inserted, came, counted, admit, joined, opened-sketch, newcomer, full}
+use Rattle.rules.specs.Items.{Item, telling, touch-item, add-item, remove}
 use Rattle.rules.specs.Ledger.{by-pass, told-by, outvoted, item-of, fitting, is-hit, takes-in, counting, opened-after, newly, upon-get, upon-insert, upon-invalidate}
 use Rattle.rules.specs.Account.{times, Running, Hits-right, Insert-right, Invalidate-right}
 use Rattle.rules.proofs.Fronts.{looked-again, tally-append, tally-without, first-in, first-none, in-freeing, seen, map-first}
@@ -34,7 +32,7 @@ use Rattle.rules.specs.Agreement.{as-item, ledger-of, Coherent}
 use Rattle.rules.proofs.Erasing.{map-again, leave-erase, leave-kept}
 use Rattle.rules.proofs.Settling.{told-no}
 use Rattle.rules.proofs.Moving.{tally-none, touch-erase, touch-kept, replace-erase, replace-kept, admit-erase, admit-kept}
-use Rattle.rules.proofs.Voting.{freeing-take, wins, leaving, run-of, run-erase, verdict-is, right-fits, right-full, right-wins, right-wins-full, right-loses}
+use Rattle.rules.proofs.Voting.{wins, leaving, run-of, run-erase, verdict-is, right-fits, right-full, right-wins, right-wins-full, right-loses}
 use Rattle.rules.proofs.Hitting.{tally-map, none-running, lapsed-running, is-running, misses, hits}
 
 outvoted-told : {Key Value : Type 0} (es : List (Entry Key Value)) → outvoted (told Outvoted es) ≡ map (λ (e : Entry Key Value). e .ticket) es

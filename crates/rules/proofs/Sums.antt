@@ -1,34 +1,34 @@
 -- After every list of calls the recorded weight is the sum of the weights held, and the entry count is how many are held.
 use mathlib.Core.Path.{_≡_, refl, sym, ap, _∙_, subst}
-use mathlib.Core.Logic.{_⊎_, inl, inr}
+use mathlib.Core.Logic.{inl, inr}
 use mathlib.Core.Bool.{Bool, true, false, cond, _&&_}
-use mathlib.Core.List.{List, [], _∷_, _++_, map}
-use Prim.Native.Nat.{ℕ, zero, suc, _+_, _-_, _*_, _<_, _≤_, _^_, min}
+use mathlib.Core.List.{List, [], _∷_, _++_}
+use Prim.Native.Nat.{ℕ, zero, suc, _+_, _-_, _*_, _<_, _≤_, _^_}
 use native.Mathlib.Omega.{arith}
-use lib.ListN.{length, take}
+use lib.ListN.{length}
 use lib.Dec.{eqb, leb}
-use Rattle.std.proofs.shelf.Tests.{cases-bool, cases-lt, both-ways, eqb-true, eq-eqb, ne-eqb, eqb-false, and-cases, leb-false}
+use Rattle.std.proofs.shelf.Tests.{cases-bool, both-ways, eq-eqb, ne-eqb, eqb-false, and-cases, leb-false}
 use Rattle.std.specs.declared.option.Option.{Option}
 use Rattle.std.specs.declared.option.Option.the-variants.{Some, None}
-use Rattle.rules.specs.Fronts.{total, first, without, passing, freeing, among, looked, In, tally}
+use Rattle.rules.specs.Fronts.{total, without, passing, freeing, among, In, tally}
 use Rattle.rules.specs.declared.choices.Choices.{Choices}
 use Rattle.rules.specs.declared.call.Call.{Call}
 use Rattle.rules.specs.declared.call.Call.the-variants.{Get, Contains, Insert, Invalidate, InvalidateAll}
 use Rattle.rules.specs.declared.answer.Answer.the-variants.{Refused}
-use Rattle.rules.specs.declared.refusal.Refusal.the-variants.{BeyondRange, NoCell}
+use Rattle.rules.specs.declared.refusal.Refusal.the-variants.{BeyondRange}
 use Rattle.rules.specs.declared.departure.Departure.{Departure}
 use Rattle.rules.specs.Kinds.{Kind, Lawful}
 use Rattle.rules.specs.Entries.{Sizes, Entry, State, fresh}
-use Rattle.rules.specs.Limits.{top, latest, plus, excess}
+use Rattle.rules.specs.Limits.{top, latest, excess}
 use Rattle.rules.specs.Passes.{expired, leave, written, cells-of, lived-out, idled-out, life-pass, idle-pass, trim-pass, after-life, after-idle, passed, passes-told}
-use Rattle.rules.specs.Votes.{verdict, Verdict, Fits, Outvotes, Loses, none}
-use Rattle.rules.specs.Calls.{Outcome, held, got, asked, struck, inserted, came, counted, to-back, touched-at, rewritten, touch-entry, replace-entry, admit, joined, newcomer, full, timely, outcome, step}
+use Rattle.rules.specs.Votes.{verdict, Fits, Outvotes, Loses, none}
+use Rattle.rules.specs.Calls.{Outcome, held, got, asked, struck, inserted, came, counted, to-back, touched-at, rewritten, touch-entry, replace-entry, admit, newcomer, full, timely, outcome, step}
 use Rattle.rules.specs.Runs.{Turn, after, line, end}
 use Rattle.rules.specs.Items.{Ledger, empty}
 use Rattle.rules.specs.Ledger.{handing, fitting}
-use Rattle.rules.specs.Account.{times, told-tickets, Free, All-free, state-after}
+use Rattle.rules.specs.Account.{times, told-tickets, All-free}
 use Rattle.rules.specs.Sums.{Adds-up, Sums-of}
-use Rattle.rules.proofs.Fronts.{tally-append, tally-without, in-tally, first-in, same-one, in-without, in-append, in-freeing, in-looked}
+use Rattle.rules.proofs.Fronts.{tally-without, in-tally, first-in, same-one, in-without, in-append, in-freeing}
 use Rattle.rules.specs.Agreement.{Coherent, ledger-of}
 use Rattle.rules.proofs.Erasing.{From, in-stays, leave-kept, life-from, idle-from, trim-from, k1, k2, passed-kept}
 use Rattle.rules.proofs.Settling.{sum-append}

@@ -1,36 +1,30 @@
 -- Tickets: each call moves them from those held to those told, and adds the one that it hands out.
 use mathlib.Core.Path.{_≡_, refl, sym, ap, _∙_, subst}
 use mathlib.Core.Logic.{_⊎_, inl, inr}
-use mathlib.Core.Bool.{Bool, true, false, cond, _&&_}
+use mathlib.Core.Bool.{Bool, true, false, cond}
 use mathlib.Core.List.{List, [], _∷_, _++_, map}
-use Prim.Native.Nat.{ℕ, zero, suc, _+_, _-_, _<_, _≤_}
+use Prim.Native.Nat.{ℕ, zero, suc, _+_, _-_, _≤_}
 use native.Mathlib.Omega.{arith}
 use lib.ListN.{length, take}
-use lib.Dec.{eqb, leb}
+use lib.Dec.{eqb}
 use Rattle.std.proofs.shelf.Tests.{cases-bool, cases-lt, both-ways, eqb-true, eq-eqb}
 use Rattle.std.proofs.shelf.Lists.{map-append}
 use Rattle.std.specs.declared.option.Option.{Option}
 use Rattle.std.specs.declared.option.Option.the-variants.{Some, None}
 use Rattle.rules.specs.Fronts.{first, without, passing, freeing, among, ahead, looked, In, tally}
 use Rattle.rules.specs.declared.choices.Choices.{Choices}
-use Rattle.rules.specs.declared.call.Call.{Call}
-use Rattle.rules.specs.declared.call.Call.the-variants.{Get, Contains, Insert, Invalidate, InvalidateAll}
-use Rattle.rules.specs.declared.answer.Answer.{Answer}
-use Rattle.rules.specs.declared.answer.Answer.the-variants.{Hit, Miss, Yes, No, New, Replaced, TurnedAway, Struck, Absent, Swept, Refused}
 use Rattle.rules.specs.declared.departure.Cause.{Cause}
-use Rattle.rules.specs.declared.departure.Cause.the-variants.{LivedOut, IdledOut, Trimmed, Outvoted, StruckOut, SweptOut}
+use Rattle.rules.specs.declared.departure.Cause.the-variants.{LivedOut, IdledOut, Trimmed}
 use Rattle.rules.specs.declared.departure.Departure.{Departure}
-use Rattle.rules.specs.Kinds.{Kind, Lawful}
-use Rattle.rules.specs.Entries.{Sizes, Entry, State}
-use Rattle.rules.specs.Limits.{top, latest, plus, excess}
-use Rattle.rules.specs.Passes.{expired, leave, told, written, cells-of, lived-out, idled-out, life-pass, idle-pass, trim-pass, after-life, after-idle, passed, passes-told}
-use Rattle.rules.specs.Votes.{verdict, Verdict, Fits, Outvotes, Loses, none}
-use Rattle.rules.specs.Calls.{Outcome, with-sketch, held, got, asked, struck, inserted, came, counted, to-back, touched-at, rewritten, touch-entry, replace-entry, admit, joined, opened-sketch, newcomer, full, step}
-use Rattle.rules.specs.Ledger.{handing}
+use Rattle.rules.specs.Kinds.{Kind}
+use Rattle.rules.specs.Entries.{Entry, State}
+use Rattle.rules.specs.Limits.{excess}
+use Rattle.rules.specs.Passes.{leave, told, written, cells-of, lived-out, idled-out, life-pass, idle-pass, trim-pass, after-life, after-idle, passed, passes-told}
+use Rattle.rules.specs.Calls.{to-back}
 use Rattle.rules.specs.Account.{times, told-tickets}
-use Rattle.rules.proofs.Fronts.{tally-append, tally-without, tally-mono, in-tally, tally-in, first-in, same-one, in-without, in-freeing, in-looked}
+use Rattle.rules.proofs.Fronts.{tally-append, tally-without, tally-mono, in-tally, tally-in, first-in, same-one, in-without, in-looked}
 use Rattle.rules.specs.Agreement.{Coherent}
-use Rattle.rules.proofs.Erasing.{From, in-stays, leave-kept, life-from, idle-from, trim-from, k1, k2, passed-kept}
+use Rattle.rules.proofs.Erasing.{From, in-stays, life-from, idle-from, trim-from, k1, k2}
 use Rattle.rules.proofs.Voting.{freeing-take}
 use Rattle.rules.proofs.Hitting.{tally-map}
 

@@ -1,30 +1,28 @@
 -- Over a whole call the tickets told and those still held are together those held before and the one handed out.
 use mathlib.Core.Path.{_≡_, refl, sym, ap, _∙_, subst}
 use mathlib.Core.Logic.{_⊎_, inl, inr}
-use mathlib.Core.Bool.{Bool, true, false, cond, _&&_}
-use mathlib.Core.List.{List, [], _∷_, _++_, map}
-use Prim.Native.Nat.{ℕ, zero, suc, _+_, _-_, _<_, _≤_}
+use mathlib.Core.Bool.{true, false, cond, _&&_}
+use mathlib.Core.List.{List, [], _∷_}
+use Prim.Native.Nat.{ℕ, _+_, _-_, _≤_}
 use native.Mathlib.Omega.{arith}
-use lib.ListN.{length, take}
-use lib.Dec.{eqb, leb}
+use lib.Dec.{leb}
 use Rattle.std.proofs.shelf.Tests.{cases-bool}
 use Rattle.std.specs.declared.option.Option.{Option}
 use Rattle.std.specs.declared.option.Option.the-variants.{Some, None}
-use Rattle.rules.specs.Fronts.{first, freeing, In, tally}
+use Rattle.rules.specs.Fronts.{In, tally}
 use Rattle.rules.specs.declared.choices.Choices.{Choices}
 use Rattle.rules.specs.declared.call.Call.{Call}
 use Rattle.rules.specs.declared.call.Call.the-variants.{Get, Contains, Insert, Invalidate, InvalidateAll}
 use Rattle.rules.specs.declared.answer.Answer.{Answer}
-use Rattle.rules.specs.declared.answer.Answer.the-variants.{Hit, Miss, Yes, No, New, Replaced, TurnedAway, Struck, Absent, Swept, Refused}
-use Rattle.rules.specs.declared.refusal.Refusal.the-variants.{BeyondRange, NoCell}
-use Rattle.rules.specs.declared.departure.Cause.{Cause}
+use Rattle.rules.specs.declared.answer.Answer.the-variants.{Refused}
+use Rattle.rules.specs.declared.refusal.Refusal.the-variants.{BeyondRange}
 use Rattle.rules.specs.declared.departure.Cause.the-variants.{Outvoted, StruckOut, SweptOut}
 use Rattle.rules.specs.declared.departure.Departure.{Departure}
 use Rattle.rules.specs.Kinds.{Kind}
 use Rattle.rules.specs.Entries.{Sizes, Entry, State}
 use Rattle.rules.specs.Limits.{latest, plus}
 use Rattle.rules.specs.Passes.{expired, leave, told, passed, passes-told}
-use Rattle.rules.specs.Votes.{verdict, Verdict, Fits, Outvotes, Loses, none}
+use Rattle.rules.specs.Votes.{verdict, Fits, Outvotes, Loses, none}
 use Rattle.rules.specs.Calls.{Outcome, held, got, asked, struck, inserted, came, counted, touched-at, rewritten, touch-entry, replace-entry, admit, joined, newcomer, full, step}
 use Rattle.rules.specs.Ledger.{handing, fitting}
 use Rattle.rules.specs.Account.{times, told-tickets}

@@ -1,31 +1,26 @@
 -- The vote: the shortest run that frees a weight is the least popular of all that do.
 use mathlib.Core.Path.{_≡_, refl, sym, ap, _∙_, subst}
-use mathlib.Core.Logic.{_⊎_, inl, inr, _≢_}
+use mathlib.Core.Logic.{inl, inr}
 use mathlib.Core.Bool.{Bool, true, false, cond, _&&_}
-use mathlib.Core.List.{List, [], _∷_, _++_, map}
-use Prim.Native.Nat.{ℕ, zero, suc, _+_, _-_, _<_, _≤_}
+use mathlib.Core.List.{List, [], _∷_, map}
+use Prim.Native.Nat.{ℕ, zero, suc, _-_, _<_, _≤_}
 use native.Mathlib.Omega.{arith}
 use lib.ListN.{length, take}
 use lib.Dec.{eqb, leb, ltb}
-use Rattle.std.proofs.shelf.Tests.{cases-bool, eqb-true, eqb-false, eq-eqb, ne-eqb, both-ways, and-parts, and-from, leb-true, ltb-true, le-leb, lt-ltb}
-use Rattle.std.specs.declared.option.Option.{Option}
-use Rattle.std.specs.declared.option.Option.the-variants.{Some, None}
+use Rattle.std.proofs.shelf.Tests.{cases-bool, eqb-true, eq-eqb, both-ways, and-parts, and-from, leb-true, ltb-true, le-leb, lt-ltb}
 use Rattle.rules.specs.Fronts.{total, freeing, In}
-use Rattle.sketch.specs.Sketches.{Sketch, frequency}
+use Rattle.sketch.specs.Sketches.{frequency}
 use Rattle.rules.specs.declared.choices.Choices.{Choices}
-use Rattle.rules.specs.declared.answer.Answer.{Answer}
-use Rattle.rules.specs.declared.answer.Answer.the-variants.{Hit, Miss, Yes, No, New, Replaced, TurnedAway, Struck, Absent, Swept, Refused}
-use Rattle.rules.specs.declared.refusal.Refusal.the-variants.{BeyondRange, NoCell}
-use Rattle.rules.specs.declared.departure.Cause.{Cause}
+use Rattle.rules.specs.declared.answer.Answer.the-variants.{New, TurnedAway, Refused}
+use Rattle.rules.specs.declared.refusal.Refusal.the-variants.{NoCell}
 use Rattle.rules.specs.declared.departure.Cause.the-variants.{Outvoted}
-use Rattle.rules.specs.declared.departure.Departure.{Departure}
 use Rattle.rules.specs.Kinds.{Kind}
 use Rattle.rules.specs.Entries.{Sizes, Entry, State}
-use Rattle.rules.specs.Limits.{fits, within}
-use Rattle.rules.specs.Votes.{popularity, vote, verdict, Verdict, Fits, Outvotes, Loses}
+use Rattle.rules.specs.Limits.{within}
+use Rattle.rules.specs.Votes.{popularity, verdict, Fits, Outvotes, Loses}
 use Rattle.rules.specs.Items.{Item, Ledger, weight-of, telling}
-use Rattle.rules.specs.Ledger.{popularity-of, fitting, takes-in}
-use Rattle.rules.specs.Account.{Run, Shortest, Within, No-cell, Newcomer-right}
+use Rattle.rules.specs.Ledger.{popularity-of, fitting}
+use Rattle.rules.specs.Account.{Run, Shortest, Within, Newcomer-right}
 use Rattle.rules.proofs.Fronts.{in-freeing, map-freeing, map-total}
 use Rattle.rules.specs.Agreement.{as-item, ledger-of, Coherent}
 

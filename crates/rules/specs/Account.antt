@@ -1,7 +1,7 @@
 -- What holds of every list of calls.
 use mathlib.Core.Path.{_≡_}
 use mathlib.Core.Logic.{_≢_, _⊎_}
-use mathlib.Core.Bool.{Bool, true, false, cond, _&&_, _||_}
+use mathlib.Core.Bool.{true, false, cond}
 use mathlib.Core.List.{List, [], _∷_, _++_, map}
 use Prim.Native.Nat.{ℕ, _+_, _-_, _≤_, _<_, _^_}
 use lib.ListN.{length, take}
@@ -9,17 +9,16 @@ use lib.Dec.{eqb, leb}
 use Rattle.std.specs.declared.option.Option.{Option}
 use Rattle.std.specs.declared.option.Option.the-variants.{Some, None}
 use Rattle.rules.specs.Fronts.{In, tally}
-use Rattle.sketch.specs.Sketches.{Sketch, frequency}
+use Rattle.sketch.specs.Sketches.{frequency}
 use Rattle.rules.specs.declared.choices.Choices.{Choices}
 use Rattle.rules.specs.declared.call.Call.{Call}
 use Rattle.rules.specs.declared.call.Call.the-variants.{Get, Contains, Insert, Invalidate, InvalidateAll}
 use Rattle.rules.specs.declared.answer.Answer.{Answer}
 use Rattle.rules.specs.declared.answer.Answer.the-variants.{Hit, Miss, Yes, No, New, Replaced, TurnedAway, Struck, Absent, Swept, Refused}
 use Rattle.rules.specs.declared.refusal.Refusal.the-variants.{BeyondRange, NoCell}
-use Rattle.rules.specs.declared.departure.Cause.{Cause}
-use Rattle.rules.specs.declared.departure.Cause.the-variants.{LivedOut, IdledOut, Trimmed, Outvoted, StruckOut, SweptOut}
+use Rattle.rules.specs.declared.departure.Cause.the-variants.{Outvoted, StruckOut, SweptOut}
 use Rattle.rules.specs.declared.departure.Departure.{Departure}
-use Rattle.rules.specs.Kinds.{Kind, Lawful}
+use Rattle.rules.specs.Kinds.{Kind}
 use Rattle.rules.specs.Entries.{Sizes, Entry, State, fresh}
 use Rattle.rules.specs.Limits.{latest, within}
 use Rattle.rules.specs.Passes.{cells-of}

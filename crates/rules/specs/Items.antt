@@ -5,7 +5,6 @@ use Prim.Native.Nat.{ℕ, _-_}
 use lib.ListN.{length}
 use lib.Dec.{eqb}
 use Rattle.std.specs.declared.option.Option.{Option}
-use Rattle.std.specs.declared.option.Option.the-variants.{Some, None}
 use Rattle.sketch.specs.Sketches.{Sketch, closed}
 use Rattle.times.specs.Expiry as times
 use Rattle.rules.specs.Fronts.{total, without, passing, freeing, among, looked}

@@ -20,7 +20,6 @@ use Rattle.rules.specs.Limits.{plus, fits, within}
 use Rattle.rules.specs.Rounding.{closest}
 use Rattle.rules.specs.Opening.{opening-size, opening}
 use Rattle.rules.specs.Passes.{written, lived-out, idled-out, expired, life-pass, idle-pass, trim-pass}
-use Rattle.rules.specs.Votes.{popularity}
 use Rattle.rules.specs.Calls.{Outcome, outcome, step}
 
 -- ---- the passes

@@ -9,11 +9,11 @@ use Rattle.std.specs.declared.option.Option.the-variants.{Some, None}
 use Rattle.sketch.specs.Sketches.{closed}
 use Rattle.rules.specs.declared.choices.Choices.{Choices}
 use Rattle.rules.specs.declared.call.Call.{Call}
-use Rattle.rules.specs.declared.call.Call.the-variants.{Get, Contains, Insert, Invalidate, InvalidateAll}
+use Rattle.rules.specs.declared.call.Call.the-variants.{Get, Contains, Insert, Invalidate}
 use Rattle.rules.specs.declared.answer.Answer.{Answer}
-use Rattle.rules.specs.declared.answer.Answer.the-variants.{Hit, Miss, Yes, No, New, Replaced, TurnedAway, Struck, Absent, Swept, Refused}
+use Rattle.rules.specs.declared.answer.Answer.the-variants.{Hit, Miss, Yes, New, Replaced, TurnedAway, Struck}
 use Rattle.rules.specs.declared.departure.Cause.{Cause}
-use Rattle.rules.specs.declared.departure.Cause.the-variants.{LivedOut, IdledOut, Trimmed, Outvoted, StruckOut, SweptOut}
+use Rattle.rules.specs.declared.departure.Cause.the-variants.{LivedOut, IdledOut, Trimmed, Outvoted, StruckOut}
 use Rattle.rules.specs.declared.departure.Departure.{Departure}
 use Rattle.rules.specs.Entries.{Sizes, State, fresh, Entry}
 use Rattle.rules.specs.Opening.{opening, opening-size}

@@ -5,7 +5,7 @@ use Prim.Native.Nat.{ℕ, _+_, _<_, _≤_, _^_}
 use lib.ListN.{length, take}
 use Rattle.rules.specs.declared.choices.Choices.{Choices}
 use Rattle.rules.specs.declared.call.Call.{Call}
-use Rattle.rules.specs.Kinds.{Kind, Lawful}
+use Rattle.rules.specs.Kinds.{Kind}
 use Rattle.rules.specs.Entries.{Sizes, State, fresh}
 use Rattle.rules.specs.Passes.{cells-of}
 use Rattle.rules.specs.Calls.{Outcome, step}

@@ -1,11 +1,11 @@
 -- The numbers that a cache keeps beside its entries.
 use mathlib.Core.Path.{_≡_}
 use mathlib.Core.List.{List}
-use Prim.Native.Nat.{ℕ, _≤_, _<_, _^_}
+use Prim.Native.Nat.{_≤_, _<_, _^_}
 use lib.ListN.{length}
 use Rattle.rules.specs.Fronts.{total, In}
 use Rattle.rules.specs.declared.choices.Choices.{Choices}
-use Rattle.rules.specs.Kinds.{Kind, Lawful}
+use Rattle.rules.specs.Kinds.{Kind}
 use Rattle.rules.specs.Entries.{Sizes, Entry, State, fresh}
 use Rattle.rules.specs.Runs.{Turn}
 use Rattle.rules.specs.Account.{All-free, state-after}
