@@ -18,8 +18,7 @@ use Rattle.rules.specs.Limits.{top}
 
 module _ {Key Value : Type 0} (kind : Kind Key Value) (choices : Choices) (sizes : Sizes) where
   -- The ledger l goes through the lines of a log. Before each and after all, the tickets told and handed out so far are
-  -- accounted for; at each, the tickets told have items, and the answer and the
-  -- departures are right by the ledger as it then stands.
+  -- accounted for; at each, the tickets told have items, and the answer and the departures are right by the ledger as it then stands.
   unfoldable pub Through : Ledger Key Value → List ℕ → List ℕ → List (Line Key Value) → Type 0
   Through l told handed [] = Accounted told handed (tickets-of (l .touch))
   Through l told handed (x ∷ xs) =
