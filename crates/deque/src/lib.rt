@@ -10,6 +10,8 @@
 //!
 //! The idea of the proof: what a link says is a function of the order, for every node with no condition
 //! (`next_of ns j ≡ after xs j`), so that each write is one equation about lists.
+#![tactic(auto)]
+
 ghost use Rattle.deque.specs.Chain.{Kept};
 
 mod calls;

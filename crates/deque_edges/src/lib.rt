@@ -2,6 +2,7 @@
 //!
 //! The desk of desk.rt keeps a queue that was lent to it behind a reference, next to a slice of names: that is how a
 //! layer above holds the queue, and its contracts stand on the queue's contracts alone.
+#![tactic(auto)]
 
 mod calls;
 mod desk;

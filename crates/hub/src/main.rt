@@ -1,4 +1,6 @@
 //! The hub: reads a script on standard input and answers it line for line on standard output.
+#![tactic(auto)]
+
 use deque::node::Node;
 use serving::desk::Desk;
 use serving::serve;

@@ -10,6 +10,8 @@
 //! cell for one, and to weigh an entry as its kind does. A call walks one chain at most, and none scans the cells.
 //! The idea of the proof: `find` promises one equation over all cells, whether an entry's key is the same as the
 //! one sought and whether its cell is the answer; with the answer none that is what `take` needs to stay lawful.
+#![tactic(auto)]
+
 mod calls;
 mod kept;
 mod search;

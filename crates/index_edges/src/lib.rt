@@ -5,6 +5,8 @@
 //! never holds a key twice. The tests run the index where it could go wrong: every cell in one chain, no cell, no
 //! head, a number of heads that is no power of two, cells given up and taken again, memory that was used before,
 //! and one key in two spellings. The proof is one case for each way of `put`.
+#![tactic(auto)]
+
 mod holder;
 mod parts;
 

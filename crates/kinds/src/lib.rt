@@ -8,6 +8,8 @@
 //! It leaves to the caller how hashes are spread over an index, and what a weight is measured against.
 //! The idea of the proof: a word of eight bytes is worked on as a whole, and an operation on words that
 //! carries nothing from byte to byte is the same operation on each byte, of which there are 256.
+#![tactic(auto)]
+
 ghost use Rattle.std.specs.Prelude.{◌≡◌, ℕ, ◌^◌, ◌<◌, Bool, true, false};
 
 mod by_serial;

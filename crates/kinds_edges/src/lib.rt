@@ -5,6 +5,8 @@
 //! have 32 bits, its values are an enum. The tests stand at the edges: letters and their neighbours,
 //! bytes 0 and 255, weights at their stop, instants at 2^62 and beyond.
 //! It promises what those functions say; nothing above rests on it.
+#![tactic(auto)]
+
 mod by_room;
 mod citing;
 mod clipping;

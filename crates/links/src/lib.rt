@@ -5,6 +5,8 @@
 //! what signatures and contracts speak of. Lists of places, and what stands first, last, before and after in them,
 //! are defined here too (specs/Places.antt), with their lemmas (proofs/Orders.antt): the queue's order and the
 //! chains of the index are such lists.
+#![tactic(auto)]
+
 ghost use Rattle.std.specs.Prelude.{◌≡◌, ◌%◌, ◌^◌, ◌<◌, None};
 ghost use Rattle.links.specs.Links.{goes_to, to_place, most};
 

@@ -8,6 +8,8 @@
 //!
 //! The idea of the proof: below these limits each number is exact in f64, so that quotient and product are roundings
 //! of fractions of whole numbers, and the result is far below 2^64.
+#![tactic(auto)]
+
 ghost use Rattle.std.specs.Prelude.{◌≡◌, ◌^◌, ◌<◌, ◌≤◌, min};
 ghost use Rattle.rules.specs.Opening.{opening_size};
 ghost use Rattle.rules.specs.Rounding.{weighed_size};

@@ -6,6 +6,8 @@
 //! cell has both. Whether an entry is over is asked of any of the three. Instants lie as plain numbers; one that no
 //! clock can show is never over.
 //! It leaves to the caller to keep a record and its entry in step. There is no proof to write.
+#![tactic(auto)]
+
 mod access_time;
 mod entries;
 mod expiry;

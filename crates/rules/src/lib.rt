@@ -10,6 +10,8 @@
 //! The idea of the proof: a state without its cells and hashes is a ledger, and each part of a call
 //! does the same to both; "cells differ", "tickets differ" and "keys differ" are each a count of at
 //! most one, so that look-up, membership and the account are sums.
+#![tactic(auto)]
+
 mod answer;
 mod call;
 mod choices;

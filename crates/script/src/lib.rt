@@ -6,6 +6,8 @@
 //!
 //! The idea of the proof: a line is a list of words, defined by recursion on its bytes; the reader takes one word
 //! after the other off that list.
+#![tactic(auto)]
+
 pub mod answer;
 pub mod command;
 pub mod lines;

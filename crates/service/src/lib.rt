@@ -5,6 +5,8 @@
 //! meaning before. Streams are no matter here: where commands come from and answers go is the caller's.
 //!
 //! The idea of the proof: there is none to write; each definition says case by case which call is made.
+#![tactic(auto)]
+
 mod queue_service;
 mod sketch_service;
 

@@ -12,6 +12,8 @@
 //!
 //! The idea of the proof: a word is the list of its counters, and the tricks with shifts and masks are shown
 //! equal to what happens in that list; above that, only counters are spoken of.
+#![tactic(auto)]
+
 ghost use Rattle.std.specs.Prelude.{◌≤◌, length};
 
 mod counters;

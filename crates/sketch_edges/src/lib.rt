@@ -1,4 +1,5 @@
 //! The frequency sketch at the edges of its rules: each test runs one edge on words that it lends.
+#![tactic(auto)]
 
 #[cfg(test)]
 mod tests {

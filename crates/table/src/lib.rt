@@ -8,6 +8,8 @@
 //! It leaves to the index above it whose keys are the same, and the keeping of `Sound` as a ghost field.
 //! The idea of the proof: the free cells are one more chain, so each used cell stands in exactly one chain, and
 //! taking and giving up are one move of one cell from a chain to the front of another.
+#![tactic(auto)]
+
 mod cell;
 mod chained;
 mod taking;

@@ -7,6 +7,8 @@
 //! It leaves to the caller what an instant is counted from, and allows instants to go back.
 //! In memory an instant lies as the plain number of its nanoseconds; a test on such a number asks
 //! nothing of it. The idea of the proof: two numbers of at most 2^62 sum to at most 2^63.
+#![tactic(auto)]
+
 mod bounded;
 mod refusal;
 

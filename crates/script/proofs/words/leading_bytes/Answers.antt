@@ -6,7 +6,7 @@ use Rattle.script.proofs.words.leading_bytes.Goals as goal
 pub loop-i-preserved : goal.loop-i-preserved
 loop-i-preserved c =
     let k = c.args.blanks in
-    let e = ap (as_asked k) (sym c.is-blank.ensures) ∙ agrees c.is-blank.result k c.if-is-blank-blanks.false in
+    let e = ap (as_asked k) (sym c.is_blank.ensures) ∙ agrees c.is_blank.result k c.if-is_blank-blanks.false in
     omega (arith, c.loop-i.invariant, leading_more k c.args.line.now c.loop-i.i c.loop-i-test.true e)
 
 pub returns-then-is-blank-blanks : goal.returns-then-is-blank-blanks

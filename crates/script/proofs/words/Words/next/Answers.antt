@@ -23,7 +23,7 @@ none_left f n line ef en z =
 
 pub returns-then-to-eq0 : goal.returns-then-to-eq0
 returns-then-to-eq0 c =
-    let e = none_left c.leading-bytes-from.result c.leading-bytes-to.result c.args.self.now.rest.now c.leading-bytes-from.ensures.is c.leading-bytes-to.ensures.is c.if-to-eq0.true in
+    let e = none_left c.leading_bytes-from.result c.leading_bytes-to.result c.args.self.now.rest.now c.leading_bytes-from.ensures.is c.leading_bytes-to.ensures.is c.if-to-eq0.true in
     record { word = e.0; left = e.1 }
 
 some_left : (f n : ℕ) (line : List ℕ) → f ≡ leading true line → n ≡ leading false (behind f line) → n ≤ length (behind f line) → 0 < n
@@ -36,6 +36,6 @@ some_left f n line ef en l pos =
 
 pub returns-else-to-eq0 : goal.returns-else-to-eq0
 returns-else-to-eq0 c =
-    let pos : 0 < c.leading-bytes-to.result = omega arith in
-    let e = some_left c.leading-bytes-from.result c.leading-bytes-to.result c.args.self.now.rest.now c.leading-bytes-from.ensures.is c.leading-bytes-to.ensures.is c.leading-bytes-to.ensures.within pos in
+    let pos : 0 < c.leading_bytes-to.result = omega arith in
+    let e = some_left c.leading_bytes-from.result c.leading_bytes-to.result c.args.self.now.rest.now c.leading_bytes-from.ensures.is c.leading_bytes-to.ensures.is c.leading_bytes-to.ensures.within pos in
     record { word = e.0; left = e.1 }
