@@ -18,7 +18,7 @@ impl<'m, K: EntryKind> Index<'m, K> {
     pub fn new(cells: &'m mut [Cell<K::Key, K::Value>], heads: &'m mut [Link]) -> Index<'m, K>
         ensures holds { (j : ℕ) → entries result j ≡ None }
         ensures held { held_in result ≡ 0 }
-        ensures lawful { Lawful alike hashed weighs (entries result) }
+        ensures lawful { Lawful K.alike K.hashed K.weighs (entries result) }
         ensures untouched { memory result ≡ cells.old }
         ensures capacity { capacity_in result ≡ capacity_of (length cells.old) (length heads.old) }
         ensures layout { Layout (parts result) }
@@ -37,8 +37,8 @@ impl<'m, K: EntryKind> Index<'m, K> {
 
     /// The cell that holds the key.
     pub fn find(&self, key: &K::Key) -> Option<usize>
-        ensures held { (i : ℕ) → result ≡ Some i → hit alike (entries self.now i) key.now ≡ true }
-        ensures found { Lawful alike hashed weighs (entries self.now) → Finds alike (entries self.now) key.now result }
+        ensures held { (i : ℕ) → result ≡ Some i → hit K.alike (entries self.now i) key.now ≡ true }
+        ensures found { Lawful K.alike K.hashed K.weighs (entries self.now) → Finds K.alike (entries self.now) key.now result }
     {
         find_in::<K>(&self.table, key)
     }
@@ -54,12 +54,12 @@ impl<'m, K: EntryKind> Index<'m, K> {
         ticket: u64,
     ) -> Option<usize>
         ensures answer { is_some result ≡ nat_lt (held_in self.old) (capacity_in self.old) }
-        ensures holds { (j : ℕ) → entries self.new j ≡ (if is result j then Some (made hashed key value weight touched written ticket) else entries self.old j) }
+        ensures holds { (j : ℕ) → entries self.new j ≡ (if is result j then Some (made K.hashed key value weight touched written ticket) else entries self.old j) }
         ensures fresh { (i : ℕ) → result ≡ Some i → entries self.old i ≡ None }
         ensures within { (i : ℕ) → result ≡ Some i → i < capacity_in self.old }
         ensures held { held_in self.new ≡ held_in self.old + pick result 0 1 }
         ensures capacity { capacity_in self.new ≡ capacity_in self.old }
-        ensures lawful { Lawful alike hashed weighs (entries self.old) → Finds alike (entries self.old) key None → weight ≡ weighs key value → Lawful alike hashed weighs (entries self.new) }
+        ensures lawful { Lawful K.alike K.hashed K.weighs (entries self.old) → Finds K.alike (entries self.old) key None → weight ≡ K.weighs key value → Lawful K.alike K.hashed K.weighs (entries self.new) }
         ensures layout { Layout (parts self.new) }
     {
         let hash = K::hash(&key);
@@ -80,7 +80,7 @@ impl<'m, K: EntryKind> Index<'m, K> {
         ensures holds { (j : ℕ) → entries self.new j ≡ (if nat_eq j i then None else entries self.old j) }
         ensures held { held_in self.new + (if result then 1 else 0) ≡ held_in self.old }
         ensures capacity { capacity_in self.new ≡ capacity_in self.old }
-        ensures lawful { Lawful alike hashed weighs (entries self.old) → Lawful alike hashed weighs (entries self.new) }
+        ensures lawful { Lawful K.alike K.hashed K.weighs (entries self.old) → Lawful K.alike K.hashed K.weighs (entries self.new) }
         ensures layout { Layout (parts self.new) }
     {
         self.table.give_up(i)
@@ -100,7 +100,7 @@ impl<'m, K: EntryKind> Index<'m, K> {
         ensures holds { (j : ℕ) → entries self.new j ≡ (if nat_eq j i then anew_in value weight touched written (entries self.old j) else entries self.old j) }
         ensures held { held_in self.new ≡ held_in self.old }
         ensures capacity { capacity_in self.new ≡ capacity_in self.old }
-        ensures lawful { (k : _) → hit alike (entries self.old i) k ≡ true → weight ≡ weighs k value → Lawful alike hashed weighs (entries self.old) → Lawful alike hashed weighs (entries self.new) }
+        ensures lawful { (k : _) → hit K.alike (entries self.old i) k ≡ true → weight ≡ K.weighs k value → Lawful K.alike K.hashed K.weighs (entries self.old) → Lawful K.alike K.hashed K.weighs (entries self.new) }
         ensures layout { Layout (parts self.new) }
     {
         self.table.replace(i, value, weight, touched, written)
@@ -132,7 +132,7 @@ impl<'m, K: EntryKind> Index<'m, K> {
         ensures holds { (j : ℕ) → entries self.new j ≡ None }
         ensures held { held_in self.new ≡ 0 }
         ensures capacity { capacity_in self.new ≡ capacity_in self.old }
-        ensures lawful { Lawful alike hashed weighs (entries self.new) }
+        ensures lawful { Lawful K.alike K.hashed K.weighs (entries self.new) }
         ensures layout { Layout (parts self.new) }
     {
         self.table.clear();

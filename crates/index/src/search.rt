@@ -12,7 +12,7 @@ fn seek_key<K: EntryKind>(
     head: Option<usize>,
     key: &K::Key,
 ) -> Option<usize>
-    ensures { result ≡ seek (key_of alike (state table.now).cs key.now) (walk (link_of (state table.now).cs) (length (state table.now).cs) head) }
+    ensures { result ≡ seek (key_of K.alike (state table.now).cs key.now) (walk (link_of (state table.now).cs) (length (state table.now).cs) head) }
 {
     let mut here = head;
     let mut left = table.cells.len();
@@ -37,7 +37,7 @@ pub(crate) fn find_in<K: EntryKind>(
     table: &Table<'_, K::Key, K::Value>,
     key: &K::Key,
 ) -> Option<usize>
-    ensures { result ≡ seek (key_of alike (state table.now).cs key.now) (walk (link_of (state table.now).cs) (length (state table.now).cs) (first_of (state table.now) (hashed key.now))) }
+    ensures { result ≡ seek (key_of K.alike (state table.now).cs key.now) (walk (link_of (state table.now).cs) (length (state table.now).cs) (first_of (state table.now) (K.hashed key.now))) }
 {
     let head = table.first(K::hash(key));
     seek_key::<K>(table, head, key)

@@ -28,8 +28,8 @@ pub fn hold<'q, 'm, K: EntryKind>(index: &'q mut Index<'m, K>) -> Holder<'q, 'm,
 impl<'q, 'm, K: EntryKind> Holder<'q, 'm, K> {
     /// The cell that now has the key with this value; none where every cell is held by others.
     pub fn put(&mut self, key: K::Key, value: K::Value) -> Option<usize>
-        ensures lawful { Lawful alike hashed weighs (entries self.old.parts.index.now) → Lawful alike hashed weighs (entries self.new.parts.index.now) }
-        ensures there { (i : ℕ) → result ≡ Some i → hit alike (entries self.new.parts.index.now i) key ≡ true }
+        ensures lawful { Lawful K.alike K.hashed K.weighs (entries self.old.parts.index.now) → Lawful K.alike K.hashed K.weighs (entries self.new.parts.index.now) }
+        ensures there { (i : ℕ) → result ≡ Some i → hit K.alike (entries self.new.parts.index.now i) key ≡ true }
     {
         self.parts.put(key, value)
     }

@@ -18,8 +18,8 @@ impl<'q, 'm, K: EntryKind> Parts<'q, 'm, K> {
     /// The cell that now has the key with this value; none where every cell is held by others.
     pub(crate) fn put(&mut self, key: K::Key, value: K::Value) -> Option<usize>
         ensures counted { Counted self.new }
-        ensures lawful { Lawful alike hashed weighs (entries self.old.index.now) → Lawful alike hashed weighs (entries self.new.index.now) }
-        ensures there { (i : ℕ) → result ≡ Some i → hit alike (entries self.new.index.now i) key ≡ true }
+        ensures lawful { Lawful K.alike K.hashed K.weighs (entries self.old.index.now) → Lawful K.alike K.hashed K.weighs (entries self.new.index.now) }
+        ensures there { (i : ℕ) → result ≡ Some i → hit K.alike (entries self.new.index.now i) key ≡ true }
     {
         let weight = K::weight(&key, &value);
         let index: &mut Index<'m, K> = &mut *self.index;

@@ -13,22 +13,22 @@ pub fn finds_itself<K: EntryKind>(k: &K::Key) -> bool
 
 /// It doesn't matter which of two keys is asked about the other: by `symm`.
 pub fn same_either_way<K: EntryKind>(k: &K::Key, l: &K::Key) -> bool
-    ensures { result ≡ alike l.now k.now }
+    ensures { result ≡ K.alike l.now k.now }
 {
     K::same(k, l)
 }
 
 /// Two keys that are both the same as a third are the same: by `trans`.
 pub fn same_through<K: EntryKind>(a: &K::Key, third: &K::Key, b: &K::Key) -> bool
-    ensures answer { result ≡ (alike a.now third.now && alike third.now b.now) }
-    ensures so { result ≡ true → alike a.now b.now ≡ true }
+    ensures answer { result ≡ (K.alike a.now third.now && K.alike third.now b.now) }
+    ensures so { result ≡ true → K.alike a.now b.now ≡ true }
 {
     K::same(a, third) && K::same(third, b)
 }
 
 /// The hash of a key, worked out from one that is the same: by `hashes`.
 pub fn hash_of_other<K: EntryKind>(known: &K::Key, asked: &K::Key) -> Option<u64>
-    ensures { result ≡ when (alike known.now asked.now) (hashed asked.now) }
+    ensures { result ≡ when (K.alike known.now asked.now) (K.hashed asked.now) }
 {
     if K::same(known, asked) {
         Some(K::hash(known))
@@ -39,7 +39,7 @@ pub fn hash_of_other<K: EntryKind>(known: &K::Key, asked: &K::Key) -> Option<u64
 
 /// The weight of a key with a value, worked out from a key that is the same: by `weights`.
 pub fn weight_of_other<K: EntryKind>(known: &K::Key, asked: &K::Key, v: &K::Value) -> Option<u32>
-    ensures { result ≡ when (alike known.now asked.now) (weighs asked.now v.now) }
+    ensures { result ≡ when (K.alike known.now asked.now) (K.weighs asked.now v.now) }
 {
     if K::same(known, asked) {
         Some(K::weight(known, v))
@@ -57,15 +57,15 @@ pub fn counts_as_one<K: EntryKind>(k: &K::Key, v: &K::Value) -> bool
 
 /// Two weights add up within 33 bits: by `bounded`.
 pub fn adds_up<K: EntryKind>(k: &K::Key, v: &K::Value, l: &K::Key, w: &K::Value) -> u64
-    ensures sum { result ≡ weighs k.now v.now + weighs l.now w.now }
-    ensures fits { weighs k.now v.now + weighs l.now w.now < 2 ^ 33 }
+    ensures sum { result ≡ K.weighs k.now v.now + K.weighs l.now w.now }
+    ensures fits { K.weighs k.now v.now + K.weighs l.now w.now < 2 ^ 33 }
 {
     K::weight(k, v) as u64 + K::weight(l, w) as u64
 }
 
 /// The hash of a key, worked out from one that is the same as a third: by `trans`, `symm` and `hashes`.
 pub fn hash_past_third<K: EntryKind>(a: &K::Key, third: &K::Key, b: &K::Key) -> Option<u64>
-    ensures { result ≡ when (alike a.now third.now && alike b.now third.now) (hashed b.now) }
+    ensures { result ≡ when (K.alike a.now third.now && K.alike b.now third.now) (K.hashed b.now) }
 {
     if K::same(a, third) && K::same(b, third) {
         Some(K::hash(a))

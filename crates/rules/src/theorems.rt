@@ -17,14 +17,14 @@ pub fn samples_stand() -> u8
 
 /// Over every list of calls each entry is accounted for, and each verdict and each hit is right.
 pub fn account_of<K: EntryKind>() -> u8
-    ensures { AccountOf (kind_of alike hashed weighs weighed) }
+    ensures { AccountOf (kind_of K.alike K.hashed K.weighs K.weighed) }
 {
     0
 }
 
 /// The same said of the log alone: the ledger goes through it, line by line.
 pub fn served_of<K: EntryKind>() -> u8
-    ensures { ServedOf (kind_of alike hashed weighs weighed) }
+    ensures { ServedOf (kind_of K.alike K.hashed K.weighs K.weighed) }
 {
     0
 }
@@ -32,15 +32,15 @@ pub fn served_of<K: EntryKind>() -> u8
 /// A cache that goes on from any ledger that agrees with it is accounted for in the same way, and the
 /// two agree again; a fresh cache agrees with the empty ledger.
 pub fn goes_on_of<K: EntryKind>() -> u8
-    ensures goes_on { GoesOnOf (kind_of alike hashed weighs weighed) }
-    ensures fresh { FreshAgrees (kind_of alike hashed weighs weighed) }
+    ensures goes_on { GoesOnOf (kind_of K.alike K.hashed K.weighs K.weighed) }
+    ensures fresh { FreshAgrees (kind_of K.alike K.hashed K.weighs K.weighed) }
 {
     0
 }
 
 /// After every list of calls each item's value is the one last taken in under its ticket.
 pub fn values_of<K: EntryKind>() -> u8
-    ensures { ValuesOf (kind_of alike hashed weighs weighed) }
+    ensures { ValuesOf (kind_of K.alike K.hashed K.weighs K.weighed) }
 {
     0
 }
@@ -48,7 +48,7 @@ pub fn values_of<K: EntryKind>() -> u8
 /// After every list of calls the recorded weight is the sum of the weights held, and the entry count
 /// is how many are held.
 pub fn sums_of<K: EntryKind>() -> u8
-    ensures { SumsOf (kind_of alike hashed weighs weighed) }
+    ensures { SumsOf (kind_of K.alike K.hashed K.weighs K.weighed) }
 {
     0
 }

@@ -29,7 +29,7 @@ returns-then-capacity-eq0 c =
 pub returns : goal.returns
 returns c =
     let some : 0 < min c.args.capacity 281474976710656 = omega (arith, c.min-capacity.ensures, c.if-capacity-eq0.false) in
-    c.weighed-opening.ensures ∙ ap (λ (n : ℕ). weighed_size n c.min-2.result c.min-capacity.result) c.min.ensures
+    c.weighed_opening.ensures ∙ ap (λ (n : ℕ). weighed_size n c.min-2.result c.min-capacity.result) c.min.ensures
     ∙ ap (λ (n : ℕ). weighed_size (min c.args.entries 4096) n c.min-capacity.result) c.min-2.ensures
     ∙ ap (weighed_size (min c.args.entries 4096) (min c.args.recorded 17592186044416)) c.min-capacity.ensures
     ∙ by_share c.args.weighed (min c.args.entries 4096) (min c.args.recorded 17592186044416) (min c.args.capacity 281474976710656) c.if-not-weighed.false some

@@ -11,4 +11,4 @@ pub returns : goal.returns
 returns g c =
     let s = state c.args.self.now.chain in
     let k = c.args.self.now.kept in
-    record { answer = c.is-linked.ensures ∙ sym (member s (out s k) c.args.i); once = once s k }
+    record { answer = c.is_linked.ensures ∙ sym (member s (out s k) c.args.i); once = once s k }

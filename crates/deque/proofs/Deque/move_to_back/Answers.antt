@@ -9,11 +9,11 @@ use Rattle.deque.proofs.Orderly.{moves_to_back}
 use Rattle.deque.proofs.Outcomes.{among, chosen, linked_here, in_order, around, move_made, last_is, not_last}
 use Rattle.deque.proofs.Deque.move_to_back.Goals as goal
 
-pub returns-then-not-is-linked : goal.returns-then-not-is-linked
-returns-then-not-is-linked g c =
+pub returns-then-not-is_linked : goal.returns-then-not-is_linked
+returns-then-not-is_linked g c =
     let s = state c.args.self.now.chain in
     let k = c.args.self.now.kept in
-    let e = among s k c.args.i c.is-linked.result false c.is-linked.ensures c.if-not-is-linked.true in
+    let e = among s k c.args.i c.is_linked.result false c.is_linked.ensures c.if-not-is_linked.true in
     record {
       answer = chosen (Ok tt) (Err NotLinked) e;
       number = chosen None (Some 8) e;
@@ -26,16 +26,16 @@ returns-then-not-is-linked g c =
       moves = moves_to_back (meaning s) (apart_is s (out s k));
     }
 
-pub returns-then-is-last : goal.returns-then-is-last
-returns-then-is-last g c =
+pub returns-then-is_last : goal.returns-then-is_last
+returns-then-is_last g c =
     let s = state c.args.self.now.chain in
     let k = c.args.self.now.kept in
-    let e = among s k c.args.i c.is-linked.result true c.is-linked.ensures c.if-not-is-linked.false in
+    let e = among s k c.args.i c.is_linked.result true c.is_linked.ensures c.if-not-is_linked.false in
     let m = moves_to_back (meaning s) (apart_is s (out s k)) in
     record {
       answer = chosen (Ok tt) (Err NotLinked) e;
       number = chosen None (Some 8) e;
-      order = sym (m.stays c.args.i (last_is s k c.args.i c.is-last.result c.is-last.ensures c.if-is-last.true));
+      order = sym (m.stays c.args.i (last_is s k c.args.i c.is_last.result c.is_last.ensures c.if-is_last.true));
       size = refl {a = length s.ns};
       owner = refl {a = s.lender};
       values = λ j. refl {a = element_of s.ns j};
@@ -45,28 +45,28 @@ returns-then-is-last g c =
     }
 
 pub node-n-requires : goal.node-n-requires
-node-n-requires g c = linked_here (state c.args.self.now.chain) c.args.self.now.kept c.args.i c.is-linked.result c.is-linked.ensures c.if-not-is-linked.false
+node-n-requires g c = linked_here (state c.args.self.now.chain) c.args.self.now.kept c.args.i c.is_linked.result c.is_linked.ensures c.if-not-is_linked.false
 
-pub send-back-requires : goal.send-back-requires
-send-back-requires g c =
+pub send_back-requires : goal.send_back-requires
+send_back-requires g c =
     let s = state c.args.self.now.chain in
     let k = c.args.self.now.kept in
-    let a = around s k c.args.i (view_of c.node-n.result) (in_order s k c.args.i c.is-linked.result true c.is-linked.ensures c.if-not-is-linked.false) c.node-n.ensures in
+    let a = around s k c.args.i (view_of c.node-n.result) (in_order s k c.args.i c.is_linked.result true c.is_linked.ensures c.if-not-is_linked.false) c.node-n.ensures in
     record { here = a.here; small = a.small; before = a.before; after = a.after; tail = a.tail }
 
-pub invariant-of-self : goal.invariant-of-self
-invariant-of-self g c =
+pub invariant_of-self : goal.invariant_of-self
+invariant_of-self g c =
     let s = state c.args.self.now.chain in
     let k = c.args.self.now.kept in
-    let m = move_made s _ k c.args.i (view_of c.node-n.result) (in_order s k c.args.i c.is-linked.result true c.is-linked.ensures c.if-not-is-linked.false) c.node-n.ensures c.send-back.ensures in
-    (m.kept, tt)
+    let m = move_made s _ k c.args.i (view_of c.node-n.result) (in_order s k c.args.i c.is_linked.result true c.is_linked.ensures c.if-not-is_linked.false) c.node-n.ensures c.send_back.ensures in
+    record { kept = m.kept }
 
 pub returns : goal.returns
 returns g c =
     let s = state c.args.self.now.chain in
     let k = c.args.self.now.kept in
-    let e = among s k c.args.i c.is-linked.result true c.is-linked.ensures c.if-not-is-linked.false in
-    let m = move_made s _ k c.args.i (view_of c.node-n.result) (in_order s k c.args.i c.is-linked.result true c.is-linked.ensures c.if-not-is-linked.false) c.node-n.ensures c.send-back.ensures in
+    let e = among s k c.args.i c.is_linked.result true c.is_linked.ensures c.if-not-is_linked.false in
+    let m = move_made s _ k c.args.i (view_of c.node-n.result) (in_order s k c.args.i c.is_linked.result true c.is_linked.ensures c.if-not-is_linked.false) c.node-n.ensures c.send_back.ensures in
     record {
       answer = chosen (Ok tt) (Err NotLinked) e;
       number = chosen None (Some 8) e;
@@ -74,7 +74,7 @@ returns g c =
       size = m.size;
       owner = m.owner;
       values = m.values;
-      stays = λ z. absurd (not_last s k c.args.i c.is-last.result c.is-last.ensures c.if-is-last.false z);
+      stays = λ z. absurd (not_last s k c.args.i c.is_last.result c.is_last.ensures c.if-is_last.false z);
       refused = tt;
       moves = moves_to_back (meaning s) (apart_is s (out s k));
     }

@@ -10,19 +10,19 @@ use Rattle.deque.proofs.Outcomes.{among, chosen, linked_here}
 use Rattle.deque.proofs.Deque.next.Goals as goal
 
 pub node-requires : goal.node-requires
-node-requires g c = linked_here (state c.args.self.now.chain) c.args.self.now.kept c.args.i c.is-linked.result c.is-linked.ensures c.if-not-is-linked.false
+node-requires g c = linked_here (state c.args.self.now.chain) c.args.self.now.kept c.args.i c.is_linked.result c.is_linked.ensures c.if-not-is_linked.false
 
-pub returns-then-not-is-linked : goal.returns-then-not-is-linked
-returns-then-not-is-linked g c =
+pub returns-then-not-is_linked : goal.returns-then-not-is_linked
+returns-then-not-is_linked g c =
     let s = state c.args.self.now.chain in
     let k = c.args.self.now.kept in
-    let e = among s k c.args.i c.is-linked.result false c.is-linked.ensures c.if-not-is-linked.true in
+    let e = among s k c.args.i c.is_linked.result false c.is_linked.ensures c.if-not-is_linked.true in
     record { answer = chosen _ (Err NotLinked) e; number = chosen None (Some 8) e; end = last_ends (meaning s) (apart_is s (out s k)) }
 
 pub returns : goal.returns
 returns g c =
     let s = state c.args.self.now.chain in
     let k = c.args.self.now.kept in
-    let e = among s k c.args.i c.is-linked.result true c.is-linked.ensures c.if-not-is-linked.false in
+    let e = among s k c.args.i c.is_linked.result true c.is_linked.ensures c.if-not-is_linked.false in
     let n = c.target.ensures ∙ next_is s (out s k) c.args.i (view_of c.node.result) c.node.ensures in
     record { answer = ap Ok n ∙ chosen (Ok _) (Err NotLinked) e; number = chosen None (Some 8) e; end = last_ends (meaning s) (apart_is s (out s k)) }

@@ -22,12 +22,12 @@ cut-requires g c =
     let a = around s k c.in-Some.i (view_of c.node-n.result) (head_in s k c.in-Some.i c.in-Some.ensures) c.node-n.ensures in
     record { here = a.here; before = a.before; after = a.after; some = a.some }
 
-pub invariant-of-self : goal.invariant-of-self
-invariant-of-self g c =
+pub invariant_of-self : goal.invariant_of-self
+invariant_of-self g c =
     let s = state c.args.self.now.chain in
     let k = c.args.self.now.kept in
     let m = cut_made s _ k c.in-Some.i (view_of c.node-n.result) (head_in s k c.in-Some.i c.in-Some.ensures) c.node-n.ensures c.cut.ensures in
-    (m.kept, tt)
+    record { kept = m.kept }
 
 pub returns-in-None : goal.returns-in-None
 returns-in-None g c =

@@ -11,10 +11,10 @@ use Rattle.deque.proofs.Orderly.{dropped_out, unlink_then_push}
 use Rattle.deque.proofs.Outcomes.{among, chosen, linked_here, in_order, around, cut_made}
 use Rattle.deque.proofs.Deque.unlink.Goals as goal
 
-pub returns-then-not-is-linked : goal.returns-then-not-is-linked
-returns-then-not-is-linked g c =
+pub returns-then-not-is_linked : goal.returns-then-not-is_linked
+returns-then-not-is_linked g c =
     let s = state c.args.self.now.chain in
-    let e = among s c.args.self.now.kept c.args.i c.is-linked.result false c.is-linked.ensures c.if-not-is-linked.true in
+    let e = among s c.args.self.now.kept c.args.i c.is_linked.result false c.is_linked.ensures c.if-not-is_linked.true in
     record {
       answer = chosen (Ok tt) (Err NotLinked) e;
       number = chosen None (Some 8) e;
@@ -28,28 +28,28 @@ returns-then-not-is-linked g c =
     }
 
 pub node-n-requires : goal.node-n-requires
-node-n-requires g c = linked_here (state c.args.self.now.chain) c.args.self.now.kept c.args.i c.is-linked.result c.is-linked.ensures c.if-not-is-linked.false
+node-n-requires g c = linked_here (state c.args.self.now.chain) c.args.self.now.kept c.args.i c.is_linked.result c.is_linked.ensures c.if-not-is_linked.false
 
 pub cut-requires : goal.cut-requires
 cut-requires g c =
     let s = state c.args.self.now.chain in
     let k = c.args.self.now.kept in
-    let a = around s k c.args.i (view_of c.node-n.result) (in_order s k c.args.i c.is-linked.result true c.is-linked.ensures c.if-not-is-linked.false) c.node-n.ensures in
+    let a = around s k c.args.i (view_of c.node-n.result) (in_order s k c.args.i c.is_linked.result true c.is_linked.ensures c.if-not-is_linked.false) c.node-n.ensures in
     record { here = a.here; before = a.before; after = a.after; some = a.some }
 
-pub invariant-of-self : goal.invariant-of-self
-invariant-of-self g c =
+pub invariant_of-self : goal.invariant_of-self
+invariant_of-self g c =
     let s = state c.args.self.now.chain in
     let k = c.args.self.now.kept in
-    let m = cut_made s _ k c.args.i (view_of c.node-n.result) (in_order s k c.args.i c.is-linked.result true c.is-linked.ensures c.if-not-is-linked.false) c.node-n.ensures c.cut.ensures in
-    (m.kept, tt)
+    let m = cut_made s _ k c.args.i (view_of c.node-n.result) (in_order s k c.args.i c.is_linked.result true c.is_linked.ensures c.if-not-is_linked.false) c.node-n.ensures c.cut.ensures in
+    record { kept = m.kept }
 
 pub returns : goal.returns
 returns g c =
     let s = state c.args.self.now.chain in
     let k = c.args.self.now.kept in
-    let e = among s k c.args.i c.is-linked.result true c.is-linked.ensures c.if-not-is-linked.false in
-    let m = cut_made s _ k c.args.i (view_of c.node-n.result) (in_order s k c.args.i c.is-linked.result true c.is-linked.ensures c.if-not-is-linked.false) c.node-n.ensures c.cut.ensures in
+    let e = among s k c.args.i c.is_linked.result true c.is_linked.ensures c.if-not-is_linked.false in
+    let m = cut_made s _ k c.args.i (view_of c.node-n.result) (in_order s k c.args.i c.is_linked.result true c.is_linked.ensures c.if-not-is_linked.false) c.node-n.ensures c.cut.ensures in
     record {
       answer = chosen (Ok tt) (Err NotLinked) e;
       number = chosen None (Some 8) e;

@@ -7,11 +7,11 @@ use Rattle.deque.proofs.chain.take_out_all.Goals as goal
 pub loop-i-preserved : goal.loop-i-preserved
 loop-i-preserved g c =
     let a = views c.loop-i.nodes in
-    let b = views c.take-out.new.nodes in
+    let b = views c.take_out.new.nodes in
     let i = c.loop-i.i in
     let k = memory.length_views c.loop-i.nodes in
     let l : i < length a = omega arith in
-    let e = c.take-out.ensures in (
+    let e = c.take_out.ensures in (
       memory.loose_more next_in None (λ n. refl) a b i l e c.loop-i.invariant.0,
       memory.loose_more prev_in None (λ n. refl) a b i l e c.loop-i.invariant.1,
       memory.loose_more linked_in false (λ n. refl) a b i l e c.loop-i.invariant.2,

@@ -11,11 +11,11 @@ by_first (x ∷ ws) vs w r e f n h =
     let q : w ≡ x = cc in
     rw (ap comment_word (sym q) ∙ n) (h ∙ ap (named w) f ∙ ap (λ (y : List ℕ). named y ws) q)
 
-pub returns-else-is-comment : goal.returns-else-is-comment
-returns-else-is-comment c =
+pub returns-else-is_comment : goal.returns-else-is_comment
+returns-else-is_comment c =
     let l = c.of-words.ensures in
-    by_first (words c.args.line.now) (words c.next.new.self.rest.now) c.in-Some.first.now c.read-named.result
+    by_first (words c.args.line.now) (words c.next.new.self.rest.now) c.in-Some.first.now c.read_named.result
     (c.in-Some.ensures.word ∙ ap (λ (x : List ℕ). first (words x)) l)
     (c.in-Some.ensures.left ∙ ap (λ (x : List ℕ). others (words x)) l)
-    (sym c.is-comment.ensures ∙ c.if-is-comment.false)
-    c.read-named.ensures
+    (sym c.is_comment.ensures ∙ c.if-is_comment.false)
+    c.read_named.ensures

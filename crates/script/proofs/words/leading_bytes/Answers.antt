@@ -9,10 +9,10 @@ loop-i-preserved c =
     let e = ap (as_asked k) (sym c.is_blank.ensures) ∙ agrees c.is_blank.result k c.if-is_blank-blanks.false in
     omega (arith, c.loop-i.invariant, leading_more k c.args.line.now c.loop-i.i c.loop-i-test.true e)
 
-pub returns-then-is-blank-blanks : goal.returns-then-is-blank-blanks
-returns-then-is-blank-blanks c =
+pub returns-then-is_blank-blanks : goal.returns-then-is_blank-blanks
+returns-then-is_blank-blanks c =
     let k = c.args.blanks in
-    let e = ap (as_asked k) (sym c.is-blank.ensures) ∙ differs c.is-blank.result k c.if-is-blank-blanks.true in
+    let e = ap (as_asked k) (sym c.is_blank.ensures) ∙ differs c.is_blank.result k c.if-is_blank-blanks.true in
     record { is = omega (arith, c.loop-i.invariant, leading_ends k c.args.line.now c.loop-i.i c.loop-i-test.true e); within = omega arith }
 
 pub returns : goal.returns

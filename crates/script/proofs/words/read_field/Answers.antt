@@ -14,6 +14,6 @@ behind_name name w r h s e =
     let t : bytes_eq (take (length name) w) name ≡ true = ap (λ (x : ℕ). bytes_eq (take x w) name) (sym z) ∙ s in
     rw (le-ltb (length w) (length name) h, t) (e ∙ ap numeral (from_on (length name) w))
 
-pub returns-then-is-word : goal.returns-then-is-word
-returns-then-is-word c =
-    behind_name c.args.name.now c.args.word.now c.number.result c.if-word-n.false (sym c.is-word.ensures ∙ c.if-is-word.true) c.number.ensures
+pub returns-then-is_word : goal.returns-then-is_word
+returns-then-is_word c =
+    behind_name c.args.name.now c.args.word.now c.number.result c.if-word-n.false (sym c.is_word.ensures ∙ c.if-is_word.true) c.number.ensures

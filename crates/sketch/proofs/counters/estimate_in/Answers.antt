@@ -17,8 +17,8 @@ loop-depth-preserved c =
     let n = number_is c.args.hash c.loop-depth.depth in
     cc
 
-pub overflow-cast-result : goal.overflow-cast-result
-overflow-cast-result c = Fits-below {n = 15} tt (let e = c.loop-depth.invariant in omega (arith, least_to_le c.args.table.now c.args.hash c.loop-depth.depth))
+pub overflow_cast-result : goal.overflow_cast-result
+overflow_cast-result c = Fits-below {n = 15} tt (let e = c.loop-depth.invariant in omega (arith, least_to_le c.args.table.now c.args.hash c.loop-depth.depth))
 
 pub returns : goal.returns
 returns c =

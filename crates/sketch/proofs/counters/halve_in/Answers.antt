@@ -10,8 +10,8 @@ use Rattle.sketch.proofs.Word.{halved_is, odds_is, odds_le}
 use Rattle.sketch.proofs.Depths.{front_at}
 use Rattle.sketch.proofs.counters.halve_in.Goals as goal
 
-pub overflow-add-odd : goal.overflow-add-odd
-overflow-add-odd c =
+pub overflow_add-odd : goal.overflow_add-odd
+overflow_add-odd c =
     let w : ℕ = get_or c.loop-word.table c.loop-word.word-index 0 in
     Fits-of_lt (omega (arith, odds_is w, odds_le w))
 

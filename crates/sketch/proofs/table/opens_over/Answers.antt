@@ -8,4 +8,4 @@ returns-then-lent-lt128 c = sym (⊎_elim (too_few c.args.lent) (λ w. too_many 
 pub returns : goal.returns
 returns c =
     let t = c.args.lent in
-    ap (λ (x : ℕ). eqb x t) c.least-power-of-two.ensures.is ∙ in_range t c.if-lent-lt128.false c.if-lent-gt8192.false
+    ap (λ (x : ℕ). eqb x t) c.least_power_of_two.ensures.is ∙ in_range t c.if-lent-lt128.false c.if-lent-gt8192.false

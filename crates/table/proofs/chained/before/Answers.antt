@@ -3,8 +3,8 @@ use Rattle.table.specs.Chain.{link_of}
 use Rattle.table.proofs.Chains.{prior_end, prior_met, prior_on}
 use Rattle.table.proofs.chained.before.Goals as goal
 
-pub returns-in-default : goal.returns-in-default
-returns-in-default g c = prior_end (link_of c.args.cells.now) c.loop-left.left c.loop-left.prev c.loop-left.here c.args.i _ c.in-default.is c.loop-left.invariant
+pub returns-in_default : goal.returns-in_default
+returns-in_default g c = prior_end (link_of c.args.cells.now) c.loop-left.left c.loop-left.prev c.loop-left.here c.args.i _ c.in_default.is c.loop-left.invariant
 
 pub returns-then-j-i : goal.returns-then-j-i
 returns-then-j-i g c =
@@ -12,4 +12,4 @@ returns-then-j-i g c =
 
 pub loop-left-preserved : goal.loop-left-preserved
 loop-left-preserved g c =
-    prior_on (link_of c.args.cells.now) c.loop-left.left c.loop-left.prev c.loop-left.here c.args.i c.in-Some.j _ c.link-at-here.result c.loop-left-test.true c.in-Some.is c.if-j-i.false c.link-at-here.ensures c.loop-left.invariant
+    prior_on (link_of c.args.cells.now) c.loop-left.left c.loop-left.prev c.loop-left.here c.args.i c.in-Some.j _ c.link_at-here.result c.loop-left-test.true c.in-Some.is c.if-j-i.false c.link_at-here.ensures c.loop-left.invariant

@@ -6,9 +6,9 @@ use Rattle.deque.specs.Edits.{fresh}
 use Rattle.deque.proofs.Memory.{length_views, within_edited}
 use Rattle.deque.proofs.chain.Chain.attach.Goals as goal
 
-pub put-fresh-requires : goal.put-fresh-requires
-put-fresh-requires g c = let e = length_views c.args.self.now.nodes.now in let h = c.requires.here in omega arith
+pub put_fresh-requires : goal.put_fresh-requires
+put_fresh-requires g c = let e = length_views c.args.self.now.nodes.now in let h = c.requires.here in omega arith
 
-pub put-next-requires : goal.put-next-requires
-put-next-requires g c =
-    within_edited (state c.args.self.now) (state c.put-fresh.new.self) (fresh (goes_to c.args.self.now.tail) c.args.x) (Some c.args.i) _ c.put-fresh.ensures c.requires.tail
+pub put_next-requires : goal.put_next-requires
+put_next-requires g c =
+    within_edited (state c.args.self.now) (state c.put_fresh.new.self) (fresh (goes_to c.args.self.now.tail) c.args.x) (Some c.args.i) _ c.put_fresh.ensures c.requires.tail

@@ -5,6 +5,6 @@ use Rattle.deque.specs.Edits.{next_to}
 use Rattle.deque.proofs.Memory.{within_edited}
 use Rattle.deque.proofs.chain.Chain.bridge.Goals as goal
 
-pub put-prev-requires : goal.put-prev-requires
-put-prev-requires g c =
-    within_edited (state c.args.self.now) (state c.put-next.new.self) (next_to (goes_to c.args.q)) (goes_to c.args.p) _ c.put-next.ensures c.requires.after
+pub put_prev-requires : goal.put_prev-requires
+put_prev-requires g c =
+    within_edited (state c.args.self.now) (state c.put_next.new.self) (next_to (goes_to c.args.q)) (goes_to c.args.p) _ c.put_next.ensures c.requires.after

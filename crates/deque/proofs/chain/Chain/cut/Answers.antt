@@ -5,8 +5,8 @@ use Rattle.deque.specs.Chain.{State, state}
 use Rattle.deque.proofs.Memory.{length_views, length_bridge}
 use Rattle.deque.proofs.chain.Chain.cut.Goals as goal
 
-pub put-loose-requires : goal.put-loose-requires
-put-loose-requires g c =
+pub put_loose-requires : goal.put_loose-requires
+put_loose-requires g c =
     let a = length_bridge (state c.args.self.now) (state c.bridge.new.self) (goes_to c.args.p) (goes_to c.args.q) c.bridge.ensures in
     let b = length_views c.bridge.new.self.nodes.now in
     let h = c.requires.here in

@@ -4,8 +4,8 @@ use Rattle.links.proofs.Orders.{is_some}
 use Rattle.deque.proofs.Memory.{length_views}
 use Rattle.deque.proofs.chain.Chain.put_next.Goals as goal
 
-pub put-next-at-requires : goal.put-next-at-requires
-put-next-at-requires g c =
+pub put_next_at-requires : goal.put_next_at-requires
+put_next_at-requires g c =
     let l = c.requires c.in-Some.i (is_some (sym c.in-Some.ensures)) in
     let e = length_views c.args.self.now.nodes.now in
     omega arith

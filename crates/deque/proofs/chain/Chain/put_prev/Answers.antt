@@ -4,8 +4,8 @@ use Rattle.links.proofs.Orders.{is_some}
 use Rattle.deque.proofs.Memory.{length_views}
 use Rattle.deque.proofs.chain.Chain.put_prev.Goals as goal
 
-pub put-prev-at-requires : goal.put-prev-at-requires
-put-prev-at-requires g c =
+pub put_prev_at-requires : goal.put_prev_at-requires
+put_prev_at-requires g c =
     let l = c.requires c.in-Some.i (is_some (sym c.in-Some.ensures)) in
     let e = length_views c.args.self.now.nodes.now in
     omega arith

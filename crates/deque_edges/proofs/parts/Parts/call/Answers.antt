@@ -6,8 +6,8 @@ use Rattle.deque_edges.proofs.parts.Parts.call.Goals as goal
 pub returns : goal.returns
 returns c =
     record {
-      answer = c.named.ensures ∙ ap (called c.args.self.now.names.now) c.pop-front-first.ensures.answer;
-      line = c.pop-front-first.ensures.order;
+      answer = c.named.ensures ∙ ap (called c.args.self.now.names.now) c.pop_front-first.ensures.answer;
+      line = c.pop_front-first.ensures.order;
       names = search rules;
       counted = c.len-waiting.ensures;
     }

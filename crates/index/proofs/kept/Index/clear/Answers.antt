@@ -6,8 +6,8 @@ use Rattle.index.proofs.Layouts.{layout}
 use Rattle.index.proofs.Counting.{held_none, same_capacity}
 use Rattle.index.proofs.kept.Index.clear.Goals as goal
 
-pub invariant-of-self : goal.invariant-of-self
-invariant-of-self g c = (∣ c.clear.ensures.sound ∣₁, tt)
+pub invariant_of-self : goal.invariant_of-self
+invariant_of-self g c = record { ok = ∣ c.clear.ensures.sound ∣₁ }
 
 pub returns : goal.returns
 unfolding parts entries capacity_in held_in

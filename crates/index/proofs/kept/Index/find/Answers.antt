@@ -12,6 +12,6 @@ returns g c =
     let m = g.K.EntryKind in
     let w = g.met.K.EntryKind in
     record {
-      held = find_held m.alike m.hashed s h c.args.key.now c.find-in.result c.find-in.ensures;
-      found = λ l. record { exactly = find_found m.alike m.hashed m.weighs w.symm w.trans w.hashes s h c.args.key.now c.find-in.result c.find-in.ensures l };
+      held = find_held m.alike m.hashed s h c.args.key.now c.find_in.result c.find_in.ensures;
+      found = λ l. record { exactly = find_found m.alike m.hashed m.weighs w.symm w.trans w.hashes s h c.args.key.now c.find_in.result c.find_in.ensures l };
     }

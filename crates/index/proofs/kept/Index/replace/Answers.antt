@@ -7,8 +7,8 @@ use Rattle.index.proofs.Layouts.{layout}
 use Rattle.index.proofs.Counting.{same_capacity}
 use Rattle.index.proofs.kept.Index.replace.Goals as goal
 
-pub invariant-of-self : goal.invariant-of-self
-invariant-of-self g c = (∣ (c.replace.ensures (sound.out (state c.args.self.now.table) c.args.self.now.ok)).sound ∣₁, tt)
+pub invariant_of-self : goal.invariant_of-self
+invariant_of-self g c = record { ok = ∣ (c.replace.ensures (sound.out (state c.args.self.now.table) c.args.self.now.ok)).sound ∣₁ }
 
 pub returns : goal.returns
 unfolding parts entries capacity_in held_in

@@ -9,8 +9,8 @@ use Rattle.index.proofs.Layouts.{layout}
 use Rattle.index.proofs.Counting.{took_answer, held_more, same_capacity}
 use Rattle.index.proofs.kept.Index.take.Goals as goal
 
-pub invariant-of-self : goal.invariant-of-self
-invariant-of-self g c = (∣ (c.take.ensures (sound.out (state c.args.self.now.table) c.args.self.now.ok)).sound ∣₁, tt)
+pub invariant_of-self : goal.invariant_of-self
+invariant_of-self g c = record { ok = ∣ (c.take.ensures (sound.out (state c.args.self.now.table) c.args.self.now.ok)).sound ∣₁ }
 
 pub returns : goal.returns
 unfolding parts entries capacity_in held_in

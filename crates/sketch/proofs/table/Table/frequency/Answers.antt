@@ -7,8 +7,8 @@ use Rattle.sketch.proofs.Powers.{table_power}
 use Rattle.sketch.proofs.Parts.{front, front_power}
 use Rattle.sketch.proofs.table.Table.frequency.Goals as goal
 
-pub estimate-in-requires : goal.estimate-in-requires
-estimate-in-requires c =
+pub estimate_in-requires : goal.estimate_in-requires
+estimate_in-requires c =
     let t = c.args.self.now in
     let n = t.meter.table_len in
     let pos : 0 < n = omega arith in
@@ -24,4 +24,4 @@ pub returns-else-len-eq0 : goal.returns-else-len-eq0
 unfolding sketch_in frequency
 returns-else-len-eq0 c =
     let t = c.args.self.now in
-    c.estimate-in.ensures ∙ ap (λ (ws : List ℕ). estimate ws c.args.hash) (front t.meter.table_len t.words.now)
+    c.estimate_in.ensures ∙ ap (λ (ws : List ℕ). estimate ws c.args.hash) (front t.meter.table_len t.words.now)

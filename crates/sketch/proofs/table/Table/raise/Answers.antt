@@ -7,8 +7,8 @@ use Rattle.sketch.proofs.Parts.{front, front_power}
 use Rattle.sketch.proofs.Becoming.{front_written}
 use Rattle.sketch.proofs.table.Table.raise.Goals as goal
 
-pub raise-in-requires : goal.raise-in-requires
-raise-in-requires c =
+pub raise_in-requires : goal.raise_in-requires
+raise_in-requires c =
     let t = c.args.self.now in
     let n = t.meter.table_len in
     front_power n t.words.now c.requires.fits (table_power n (t.meter.sample_size / 10) (t.meter.power c.requires.open))
@@ -20,9 +20,9 @@ returns c =
     let n = t.meter.table_len in
     let f = front n t.words.now in
     let hash = c.args.hash in
-    let w = c.raise-in.ensures.words ∙ ap (λ (x : List ℕ). raised_all x hash) f in
+    let w = c.raise_in.ensures.words ∙ ap (λ (x : List ℕ). raised_all x hash) f in
     record {
-      words = front_written _ _ (with_words (sketch_in t) (raised_all (sketch_in t).words hash)) n c.raise-in.new.table refl c.requires.fits c.raise-in.auto.table refl w refl refl;
+      words = front_written _ _ (with_words (sketch_in t) (raised_all (sketch_in t).words hash)) n c.raise_in.new.table refl c.requires.fits c.raise_in.auto.table refl w refl refl;
       meter = refl;
-      rose = c.raise-in.ensures.rose ∙ ap (λ (x : List ℕ). rises x hash) f;
+      rose = c.raise_in.ensures.rose ∙ ap (λ (x : List ℕ). rises x hash) f;
     }

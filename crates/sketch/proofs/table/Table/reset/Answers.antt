@@ -12,6 +12,6 @@ returns c =
     let t = c.args.self.now in
     let n = t.meter.table_len in
     let f = front n t.words.now in
-    let odd = c.halve-in-odd.ensures.odd ∙ ap odds_all f in
-    front_written _ _ (halved_sketch (with_size (sketch_in t) c.args.size)) n c.halve-in-odd.new.table refl c.requires.fits c.halve-in-odd.auto.table refl
-    (c.halve-in-odd.ensures.words ∙ ap halved_all f) refl (omega (arith, odd))
+    let odd = c.halve_in-odd.ensures.odd ∙ ap odds_all f in
+    front_written _ _ (halved_sketch (with_size (sketch_in t) c.args.size)) n c.halve_in-odd.new.table refl c.requires.fits c.halve_in-odd.auto.table refl
+    (c.halve_in-odd.ensures.words ∙ ap halved_all f) refl (omega (arith, odd))

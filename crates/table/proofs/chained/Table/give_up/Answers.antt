@@ -6,16 +6,16 @@ use Rattle.table.proofs.Soundness as sound
 use Rattle.table.proofs.Outcomes as calls
 use Rattle.table.proofs.chained.Table.give_up.Goals as goal
 
-pub returns-in-default : goal.returns-in-default
-returns-in-default g c = λ h. calls.none_parted (state c.args.self.now) c.args.i h (c.in-default.ensures h)
+pub returns-in_default : goal.returns-in_default
+returns-in_default g c = λ h. calls.none_parted (state c.args.self.now) c.args.i h (c.in_default.ensures h)
 
 pub bucket-b-requires : goal.bucket-b-requires
 bucket-b-requires g c =
     let s = state c.args.self.now in
     sound.capacity_heads (length s.cs) (length s.hs) c.args.i c.in-Some.ensures.within
 
-pub before-in-p-requires : goal.before-in-p-requires
-before-in-p-requires g c =
+pub before_in-p-requires : goal.before_in-p-requires
+before_in-p-requires g c =
     let s = state c.args.self.now in
     let n = sound.capacity_heads (length s.cs) (length s.hs) c.args.i c.in-Some.ensures.within in
     let b = sound.mod_below c.in-Some.c.entry.hash (length s.hs) n in
@@ -31,7 +31,7 @@ relink-requires g c =
 pub vacate-requires : goal.vacate-requires
 vacate-requires g c =
     let s = state c.args.self.now in
-    let a = ap (λ (t : State g.row.Key.Denot g.row.Value.Denot). length t.cs) c.relink.ensures ∙ length_edited_at (chain_to c.in-Some.c.chain) s.cs c.before-in-p.result in
+    let a = ap (λ (t : State g.row.Key.Denot g.row.Value.Denot). length t.cs) c.relink.ensures ∙ length_edited_at (chain_to c.in-Some.c.chain) s.cs c.before_in-p.result in
     let w = c.in-Some.ensures.within in
     let k = sound.capacity_cells (length s.cs) (length s.hs) in
     let m = sound.capacity_most (length s.cs) (length s.hs) in
@@ -40,6 +40,6 @@ vacate-requires g c =
 pub returns : goal.returns
 returns g c = λ h.
     let s = state c.args.self.now in
-    calls.part_parted s (state c.vacate.new.self) c.args.i c.in-Some.c c.before-in-p.result h c.in-Some.ensures
-    (c.before-in-p.ensures ∙ ap (λ (x : ℕ). prior (link_of s.cs) (length s.cs) None (head_of s.hs x) c.args.i) c.bucket-b.ensures)
-    (c.vacate.ensures ∙ ap (λ (t : State g.row.Key.Denot g.row.Value.Denot). vacated t c.args.i c.in-Some.c.entry) c.relink.ensures ∙ ap (λ (x : ℕ). part_state s c.args.i c.in-Some.c.entry c.before-in-p.result x c.in-Some.c.chain) c.bucket-b.ensures)
+    calls.part_parted s (state c.vacate.new.self) c.args.i c.in-Some.c c.before_in-p.result h c.in-Some.ensures
+    (c.before_in-p.ensures ∙ ap (λ (x : ℕ). prior (link_of s.cs) (length s.cs) None (head_of s.hs x) c.args.i) c.bucket-b.ensures)
+    (c.vacate.ensures ∙ ap (λ (t : State g.row.Key.Denot g.row.Value.Denot). vacated t c.args.i c.in-Some.c.entry) c.relink.ensures ∙ ap (λ (x : ℕ). part_state s c.args.i c.in-Some.c.entry c.before_in-p.result x c.in-Some.c.chain) c.bucket-b.ensures)

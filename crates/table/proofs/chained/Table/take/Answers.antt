@@ -7,8 +7,8 @@ use Rattle.table.proofs.chained.Table.take.Goals as goal
 pub returns-then-self-capacity : goal.returns-then-self-capacity
 returns-then-self-capacity g c = λ h. calls.full_took (state c.args.self.now) c.args.entry h (omega arith)
 
-pub returns-in-default : goal.returns-in-default
-returns-in-default g c = λ h. calls.no_vacancy_took (state c.args.self.now) c.args.entry h c.in-default.ensures
+pub returns-in_default : goal.returns-in_default
+returns-in_default g c = λ h. calls.no_vacancy_took (state c.args.self.now) c.args.entry h c.in_default.ensures
 
 pub join-requires : goal.join-requires
 join-requires g c =
