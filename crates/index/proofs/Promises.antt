@@ -8,6 +8,7 @@ use Rattle.links.specs.Places.{is}
 use Rattle.table.specs.Chain.{State, state, capacity, live, entry_at, Sound}
 use Rattle.links.proofs.Orders
 use Rattle.table.proofs.Soundness as sound
+use Rattle.kinds.specs.declared.EntryKind.{Ghosts}
 use Rattle.index.specs.declared.kept.Index.{Index}
 use Rattle.index.specs.Meaning.{parts, entries, capacity_in, held_in}
 use Rattle.index.specs.Lawful.{hit, Finds, Lawful}
@@ -15,7 +16,7 @@ use Rattle.index.specs.Layout.{Layout}
 use Rattle.index.proofs.Layouts
 use Rattle.index.proofs.Counting
 
-module _ {K A B : Type 0} (x : Index K A B) where
+module _ {K A B : Type 0} {m : Ghosts K A B} (x : Index K A B m) where
   whole : Sound (state x.table)
   whole = sound.out (state x.table) x.ok
 

@@ -18,14 +18,14 @@ fn is_over_since(span: Option<Duration>, from: Option<u64>, now: Instant) -> boo
 
 /// Whether the idle time of a record's entry is over.
 pub fn is_expired_entry_ao<R: AccessTime>(idle: Option<Duration>, entry: &R, at: Instant) -> bool
-    ensures { result ≡ over_since (span_of idle) (touched entry.now) at.nanos }
+    ensures { result ≡ over_since (span_of idle) (R.touched entry.now) at.nanos }
 {
     is_over_since(idle, entry.last_accessed(), at)
 }
 
 /// Whether the life of a record's entry is over.
 pub fn is_expired_entry_wo<R: AccessTime>(life: Option<Duration>, entry: &R, at: Instant) -> bool
-    ensures { result ≡ over_since (span_of life) (written entry.now) at.nanos }
+    ensures { result ≡ over_since (span_of life) (R.written entry.now) at.nanos }
 {
     is_over_since(life, entry.last_modified(), at)
 }

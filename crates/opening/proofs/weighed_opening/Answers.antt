@@ -9,8 +9,8 @@ truncating_f64_to_u64-requires c =
     let h = fractions.product a.entries a.recorded a.capacity p.entries p.recorded p.capacity.0 p.capacity.1 c.nearest_u64_to_f64.result c.nearest_u64_to_f64-2.result c.nearest_u64_to_f64-3.result
     c.nearest_u64_to_f64.ensures c.nearest_u64_to_f64-2.ensures c.nearest_u64_to_f64-3.ensures in
     record {
-      lower-bound = fractions.low a.entries a.recorded a.capacity p.entries p.recorded p.capacity.0 p.capacity.1 _ h;
-      upper-bound = fractions.high a.entries a.recorded a.capacity p.entries p.recorded p.capacity.0 p.capacity.1 _ h;
+      lower_bound = fractions.low a.entries a.recorded a.capacity p.entries p.recorded p.capacity.0 p.capacity.1 _ h;
+      upper_bound = fractions.high a.entries a.recorded a.capacity p.entries p.recorded p.capacity.0 p.capacity.1 _ h;
     }
 
 pub returns : goal.returns
