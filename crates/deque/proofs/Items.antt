@@ -1,14 +1,14 @@
 -- What the state means: the list of items after a push, a removal or a replaced element, and what a node that was read tells of it.
-use Rattle.std.proofs.Common.{◌≡◌, ℕ, zero, suc, ◌<◌, Bool, true, false, cond, eqb, ◌⊎◌, List, [], ◌∷◌, ◌++◌, length, Some, None, Option, sym, refl, ap, ◌∙◌, inl, inr, arith}
+use Rattle.std.proofs.Common.{◌≡◌, ℕ, zero, suc, ◌<◌, Bool, true, false, cond, eqb, List, [], ◌∷◌, ◌++◌, length, Some, None, Option, sym, refl, ap, ◌∙◌, inl, inr, arith}
 use Rattle.std.specs.List.{slice_get, flat_map}
 use Rattle.std.proofs.lemmas.List.{flat_map_more, length-map}
 use Rattle.std.proofs.lemmas.Bool.Decides.{nat_tests}
 use Rattle.std.proofs.lemmas.Bool.{cases_eq, cases_Bool, eqb-true}
 use Rattle.links.specs.Places.{first, has, after, before, distinct, without}
-use Rattle.deque.specs.Views.{View, next_in, linked_in, element_in, next_of, prev_of, linked_of, element_of}
+use Rattle.deque.specs.Views.{View, next_in, element_in, next_of, prev_of, linked_of, element_of}
 use Rattle.deque.specs.Chain.{State, order, item_in, item, meaning, Lies, Sound}
 use Rattle.deque.specs.Edits.{edited, edited_at, next_to, prev_to, element_to, loose, fresh, push_state, cut_state, unlink_state, set_state}
-use Rattle.deque.specs.Meaning.{places, dropped, rest, found, replaced, entry}
+use Rattle.deque.specs.Meaning.{places, dropped, rest, found, replaced}
 use Rattle.links.proofs.Orders.{both_ways, eqb_same, first_none}
 use Rattle.deque.proofs.Memory
 use Rattle.deque.proofs.Soundness.{order_is, has_within, push_sound, unlink_sound, set_sound}

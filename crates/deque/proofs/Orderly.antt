@@ -1,12 +1,12 @@
 -- The laws of the queue, over lists of items: plain lists, and no memory.
-use Rattle.std.proofs.Common.{◌≡◌, ℕ, Bool, true, false, cond, eqb, ◌⊎◌, List, [], ◌∷◌, ◌++◌, Some, None, Option, sym, refl, ap, ◌∙◌, inl, inr, append_assoc, arith}
+use Rattle.std.proofs.Common.{◌≡◌, ℕ, true, false, eqb, List, [], ◌∷◌, ◌++◌, Some, None, Option, sym, refl, ap, ◌∙◌, inl, inr, append_assoc, arith}
 use Rattle.std.proofs.lemmas.List.{append-nil}
 use Rattle.std.proofs.lemmas.Bool.Decides.{nat_tests}
-use Rattle.std.proofs.lemmas.Bool.{cases_eq, cases_Bool, eqb-true}
+use Rattle.std.proofs.lemmas.Bool.{cases_Bool, eqb-true}
 use Rattle.links.specs.Places.{has, last_from, last, distinct}
-use Rattle.deque.specs.Meaning.{places, dropped, pushed, rest, found, replaced, entry, moved, free}
+use Rattle.deque.specs.Meaning.{places, dropped, found, replaced, entry, moved, free}
 use Rattle.deque.specs.Laws.{Turn, push, pop, turned, put_in, handed_out, all_in, all_out, left, LastHasNoNext, MovesToBack, UnlinkThenPushMoves, FirstInFirstOut}
-use Rattle.links.proofs.Orders.{head_apart, tail_apart, has_later, last_later, after_last, eqb_same, both_ways}
+use Rattle.links.proofs.Orders.{head_apart, tail_apart, last_later, after_last, eqb_same, both_ways}
 
 module _ {T : Type 0} where
   -- ---- a node that is no item

@@ -1,12 +1,12 @@
 -- From a sound state to what each call makes of it: the state after it is sound, with these items and these elements.
-use Rattle.std.proofs.Common.{◌≡◌, ℕ, ◌<◌, ◌≤◌, Bool, true, false, cond, not, eqb, ltb, ◌⊎◌, List, [], ◌∷◌, ◌++◌, length, Some, None, Option, sym, refl, ap, ◌∙◌, subst, inl, inr, arith}
+use Rattle.std.proofs.Common.{◌≡◌, ℕ, ◌<◌, ◌≤◌, Bool, true, false, cond, not, eqb, List, [], ◌∷◌, ◌++◌, length, Some, None, Option, sym, refl, ap, ◌∙◌, subst, inl, inr, arith}
 use Rattle.std.specs.List.{slice_get}
 use Rattle.std.proofs.lemmas.Bool.Decides.{nat_tests}
 use Rattle.std.proofs.lemmas.Bool.{cases_eq, lt-ltb}
-use Rattle.links.specs.Places.{is, first, last, has, before, after, without}
+use Rattle.links.specs.Places.{is, last, has, without}
 use Rattle.links.specs.Links.{most}
 use Rattle.deque.specs.Views.{View, next_in, prev_in, element_in, linked_of, next_of, prev_of, element_of}
-use Rattle.deque.specs.Chain.{State, order, meaning, Lies, Sound, Within, Cleared, Emptied}
+use Rattle.deque.specs.Chain.{State, order, meaning, Lies, Sound, Within, Emptied}
 use Rattle.deque.specs.Edits.{push_state, cut_state, move_state, unlink_state, set_state}
 use Rattle.deque.specs.Meaning.{places, dropped, replaced, moved, free}
 use Rattle.deque.specs.Laws.{EachOnce}

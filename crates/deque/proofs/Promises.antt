@@ -1,14 +1,14 @@
 -- What holds of every queue, for callers: these lemmas and the contracts are all that a layer above needs.
 -- (Orders.antt and Orderly.antt beside it are about plain lists, and may be cited too.)
-use Rattle.std.proofs.Common.{◌≡◌, ℕ, ◌<◌, ◌≤◌, Bool, true, false, cond, eqb, ltb, ◌⊎◌, List, [], ◌∷◌, length, Some, None, Ok, Err, Option, Result, sym, refl, ap, ◌∙◌, inl, inr, arith}
+use Rattle.std.proofs.Common.{◌≡◌, ℕ, ◌<◌, ◌≤◌, true, false, ltb, List, None, Ok, Err, Option, Result, sym, refl, inl, inr}
 use Rattle.std.proofs.lemmas.Bool.{cases_Bool, lt-ltb}
 use Rattle.deque.specs.declared.Deque.{Deque}
 use Rattle.deque.specs.declared.refusal.Refusal.{Refusal}
 use Rattle.deque.specs.declared.refusal.Refusal.TheVariants.{NotLinked}
 use Rattle.links.specs.Places.{has, after, distinct}
 use Rattle.links.specs.Links.{most}
-use Rattle.deque.specs.Chain.{state, meaning, Lies}
-use Rattle.deque.specs.Meaning.{items, nodes, lent, value_at, places, dropped, moved, replaced, found, by_ok, when_linked, when_pushed, next_answer, found_answer}
+use Rattle.deque.specs.Chain.{state, Lies}
+use Rattle.deque.specs.Meaning.{items, nodes, lent, value_at, places, dropped, moved, replaced, found, by_ok, when_linked, when_pushed, next_answer}
 use Rattle.deque.specs.Laws.{EachOnce, MovesToBack, LastHasNoNext}
 use Rattle.links.proofs.Orders.{after_none}
 use Rattle.deque.proofs.Soundness.{out}

@@ -1,14 +1,14 @@
 -- Whether the links lie as an order says: after a push, a removal, a move, a replaced element, and where all are out.
-use Rattle.std.proofs.Common.{◌≡◌, ℕ, suc, ◌+◌, ◌-◌, ◌<◌, ◌≤◌, Bool, true, false, cond, eqb, ◌⊎◌, List, [], ◌∷◌, ◌++◌, length, Some, None, Option, sym, refl, ap, ◌∙◌, subst, subst₂, inl, inr, arith}
+use Rattle.std.proofs.Common.{◌≡◌, ℕ, suc, ◌+◌, ◌-◌, ◌<◌, ◌≤◌, Bool, true, false, cond, eqb, List, [], ◌∷◌, ◌++◌, length, Some, None, Option, sym, refl, ap, ◌∙◌, subst, subst₂, inl, inr, arith}
 use mathlib.Core.Logic.{∥∥₁_elim}
 use native.Mathlib.Bridge.{le_prop}
 use base.Stored.{Coded-set, coded_ℕ, coded_bool}
 use Rattle.std.proofs.lemmas.List.{length_push}
 use Rattle.std.proofs.lemmas.Bool.Decides.{nat_tests}
 use Rattle.std.proofs.lemmas.Bool.{cases_eq, cases_Bool, eqb-true}
-use Rattle.links.specs.Places.{is, pick, first, last, has, after, before, without}
+use Rattle.links.specs.Places.{is, pick, last, has, after, before, without}
 use Rattle.links.specs.Links.{most}
-use Rattle.deque.specs.Views.{View, next_in, prev_in, linked_in, linked_of, next_of, prev_of, linked_count}
+use Rattle.deque.specs.Views.{View, next_in, prev_in, linked_in, linked_of, linked_count}
 use Rattle.deque.specs.Chain.{walk, State, order, Lies, Sound, Within}
 use Rattle.deque.specs.Edits.{edited, edited_at, next_to, prev_to, element_to, loose, fresh, push_state, cut_state, move_state, unlink_state, set_state}
 use Rattle.links.proofs.Orders

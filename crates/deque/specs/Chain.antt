@@ -1,5 +1,5 @@
 -- Nodes that are linked in an order: the state, its order, what it means, and how its links lie.
-use Rattle.std.specs.Prelude.{◌≡◌, ℕ, zero, suc, ◌<◌, ◌≤◌, Bool, true, false, List, [], ◌∷◌, ◌++◌, length, Some, None, Option}
+use Rattle.std.specs.Prelude.{◌≡◌, ℕ, zero, suc, ◌<◌, ◌≤◌, true, List, [], ◌∷◌, length, Some, None, Option}
 use Rattle.std.specs.List.{flat_map}
 use Rattle.deque.specs.declared.chain.Chain.{Chain}
 use Rattle.links.specs.Places.{is, first, last, has, after, before, distinct}

@@ -1,5 +1,5 @@
 -- Writes to the nodes, and what each makes of the state.
-use Rattle.std.specs.Prelude.{ℕ, zero, suc, ◌+◌, ◌-◌, Bool, true, false, List, [], ◌∷◌, Some, None, Option}
+use Rattle.std.specs.Prelude.{ℕ, zero, suc, ◌+◌, ◌-◌, true, List, [], ◌∷◌, Some, None, Option}
 use Rattle.links.specs.Places.{pick}
 use Rattle.deque.specs.Views.{View, out_with, next_of, prev_of}
 use Rattle.deque.specs.Chain.{State}

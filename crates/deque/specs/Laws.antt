@@ -1,5 +1,5 @@
 -- Laws above the definitions. Each is about a list of items, and is named by a call's contract for the list that it finds.
-use Rattle.std.specs.Prelude.{◌≡◌, ℕ, ◌<◌, Bool, true, false, cond, List, [], ◌∷◌, ◌++◌, Some, None, Option}
+use Rattle.std.specs.Prelude.{◌≡◌, ℕ, ◌<◌, true, cond, List, [], ◌∷◌, ◌++◌, Some, None, Option}
 use Rattle.links.specs.Places.{has, last, after, distinct}
 use Rattle.deque.specs.Meaning.{places, dropped, pushed, front, rest, found, moved, free}
 

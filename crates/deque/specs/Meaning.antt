@@ -1,11 +1,11 @@
 -- What a queue holds, and what each call answers and makes of it.
-use Rattle.std.specs.Prelude.{◌≡◌, ℕ, Bool, true, false, cond, not, List, [], ◌∷◌, ◌++◌, map, length, Some, None, Ok, Err, Option, Result, ◌==◌, nat_lt}
+use Rattle.std.specs.Prelude.{◌≡◌, ℕ, Bool, false, cond, not, List, [], ◌∷◌, ◌++◌, map, length, Some, None, Ok, Err, Option, Result, ◌==◌, nat_lt}
 use Rattle.deque.specs.declared.Deque.{Deque}
 use Rattle.deque.specs.declared.refusal.Refusal.{Refusal}
 use Rattle.deque.specs.declared.refusal.Refusal.TheVariants.{NotLinked, NotFree}
 use Rattle.links.specs.Places.{has, after}
 use Rattle.deque.specs.Views.{View, element_of}
-use Rattle.deque.specs.Chain.{State, state, meaning}
+use Rattle.deque.specs.Chain.{state, meaning}
 
 -- the linked nodes with their elements, front first
 abbrev pub items : {T : Type 0} → Deque T → List (ℕ × T)

@@ -1,5 +1,5 @@
 -- What a node in memory says: its links as options, its mark, its element.
-use Rattle.std.specs.Prelude.{ℕ, suc, Bool, true, false, cond, List, [], ◌∷◌, map, Some, None, Option}
+use Rattle.std.specs.Prelude.{ℕ, suc, Bool, false, cond, List, [], ◌∷◌, map, Some, None, Option}
 use Rattle.std.specs.List.{slice_get}
 use Rattle.links.specs.Links.{goes_to}
 use Rattle.deque.specs.declared.node.Node.{Node}

@@ -1,5 +1,5 @@
 -- Who waits at a desk.
-use Rattle.std.specs.Prelude.{◌≡◌, ℕ, Bool, true, false, cond, List, length, Some, None, Option, nat_lt, slice_index}
+use Rattle.std.specs.Prelude.{◌≡◌, ℕ, Bool, false, cond, List, length, Some, None, Option, nat_lt, slice_index}
 use Rattle.deque.specs.Meaning.{items, lent, free}
 use Rattle.deque_edges.specs.declared.parts.Parts.{Parts}
 

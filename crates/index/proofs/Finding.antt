@@ -1,5 +1,5 @@
 -- The walk along the chain of a key's hash finds the held entry with that key, and it alone.
-use Rattle.std.proofs.Common.{◌≡◌, ℕ, zero, suc, ◌-◌, ◌%◌, ◌<◌, ◌≤◌, Bool, true, false, cond, eqb, ltb, ◌⊎◌, List, [], ◌∷◌, length, Some, None, Option, sym, refl, ap, ◌∙◌, inl, inr, arith}
+use Rattle.std.proofs.Common.{◌≡◌, ℕ, ◌%◌, ◌<◌, Bool, true, false, eqb, ltb, length, Some, None, Option, sym, refl, ap, ◌∙◌, inl, inr, arith}
 use Rattle.std.specs.List.{slice_get}
 use Rattle.std.proofs.lemmas.Option.{slice_get_past}
 use Rattle.std.proofs.lemmas.Bool.Decides.{nat_tests}
@@ -7,12 +7,12 @@ use Rattle.std.proofs.lemmas.Bool.{cases_eq, cases_Bool}
 use Rattle.table.specs.declared.cell.Cell.{Cell}
 use Rattle.table.specs.declared.cell.Entry.{Entry}
 use Rattle.links.specs.Places.{is, has, seek}
-use Rattle.table.specs.Chain.{State, capacity, entry_in, link_of, link, spot, entry_at, head_in, head_of, head_at, first_of, key_in, key_of, walk, chain, Sound}
+use Rattle.table.specs.Chain.{State, entry_in, link_of, spot, entry_at, head_in, head_at, first_of, key_in, key_of, walk, chain, Sound}
 use Rattle.links.proofs.Orders
 use Rattle.table.proofs.Chains
 use Rattle.table.proofs.Soundness as sound
 use Rattle.table.proofs.Outcomes as outcomes
-use Rattle.index.specs.Lawful.{hit, Finds, Lawful}
+use Rattle.index.specs.Lawful.{hit, Lawful}
 
 module _ {A B : Type 0} where
   none_some : {X : Type 0} (x : Option (Entry A B)) (e : Entry A B) → x ≡ None → x ≡ Some e → X

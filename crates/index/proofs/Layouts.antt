@@ -1,17 +1,16 @@
 -- What is certain of the memory of a sound state: each held cell is in the chain of its hash, each cell is held or
 -- free.
-use Rattle.std.proofs.Common.{◌≡◌, ℕ, ◌%◌, ◌<◌, ◌≤◌, Bool, true, false, cond, not, eqb, ltb, ◌⊎◌, length, is_some, Some, None, Option, sym, refl, ap, ◌∙◌, inl, inr, arith}
+use Rattle.std.proofs.Common.{◌≡◌, ℕ, ◌%◌, ◌<◌, true, false, not, eqb, ltb, length, is_some, Some, Option, sym, ap, ◌∙◌, inl, inr, arith}
 use Rattle.std.specs.List.{slice_get}
 use Rattle.std.proofs.lemmas.Bool.Decides.{nat_tests}
-use Rattle.std.proofs.lemmas.Bool.{cases_Bool, lt-ltb, le-ltb, ltb-true}
+use Rattle.std.proofs.lemmas.Bool.{cases_Bool, lt-ltb}
 use Rattle.table.specs.declared.cell.Cell.{Cell}
-use Rattle.table.specs.declared.cell.Entry.{Entry}
 use Rattle.links.specs.Places.{is, has}
-use Rattle.table.specs.Chain.{State, capacity, spot_in, entry_in, spot, entry_at, chain, Sound}
+use Rattle.table.specs.Chain.{State, capacity, spot_in, entry_in, chain, Sound}
 use Rattle.table.proofs.Memory
 use Rattle.table.proofs.Soundness as sound
 use Rattle.table.proofs.Outcomes as outcomes
-use Rattle.index.specs.Layout.{free_at, HeldOrFree, InItsChain, OnlyHeld, Layout}
+use Rattle.index.specs.Layout.{HeldOrFree, InItsChain, OnlyHeld, Layout}
 
 module _ {A B : Type 0} where
   in_its_chain : (s : State A B) → Sound s → InItsChain s

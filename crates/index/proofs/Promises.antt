@@ -1,17 +1,15 @@
 -- What holds of every index, for callers.
-use Rattle.std.proofs.Common.{◌≡◌, ℕ, ◌^◌, ◌<◌, ◌≤◌, Bool, true, false, eqb, ltb, ◌⊎◌, length, is_some, Some, None, Option, sym, refl, ap, ◌∙◌, inl, inr, arith}
+use Rattle.std.proofs.Common.{◌≡◌, ℕ, ◌^◌, ◌<◌, ◌≤◌, Bool, true, false, eqb, length, is_some, Some, None, Option, sym, refl, ap, ◌∙◌, inl, inr, arith}
 use Rattle.std.proofs.lemmas.Bool.Decides.{nat_tests}
 use Rattle.std.proofs.lemmas.Bool.{cases_lt}
 use Rattle.table.specs.declared.cell.Entry.{Entry}
-use Rattle.links.specs.Links.{most}
-use Rattle.links.specs.Places.{is}
-use Rattle.table.specs.Chain.{State, state, capacity, live, entry_at, Sound}
+use Rattle.table.specs.Chain.{state, capacity, live, entry_at, Sound}
 use Rattle.links.proofs.Orders
 use Rattle.table.proofs.Soundness as sound
 use Rattle.kinds.specs.declared.EntryKind.{Ghosts}
 use Rattle.index.specs.declared.kept.Index.{Index}
 use Rattle.index.specs.Meaning.{parts, entries, capacity_in, held_in}
-use Rattle.index.specs.Lawful.{hit, Finds, Lawful}
+use Rattle.index.specs.Lawful.{hit, Finds}
 use Rattle.index.specs.Layout.{Layout}
 use Rattle.index.proofs.Layouts
 use Rattle.index.proofs.Counting

@@ -1,5 +1,5 @@
 -- How the memory lies: what a correct index may choose, and what is certain of it whatever it chooses.
-use Rattle.std.specs.Prelude.{◌≡◌, ℕ, ◌%◌, ◌<◌, ◌≤◌, Bool, true, false, cond, not, List, length, is_some, Some, None, Option, ◌==◌, nat_lt}
+use Rattle.std.specs.Prelude.{◌≡◌, ℕ, ◌%◌, ◌<◌, ◌≤◌, Bool, true, cond, not, length, is_some, Some, None, ◌==◌, nat_lt}
 use Rattle.table.specs.declared.cell.Entry.{Entry}
 use Rattle.links.specs.Places.{has, distinct}
 use Rattle.table.specs.Chain.{State, capacity, chain, entry_at}

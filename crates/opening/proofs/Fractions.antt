@@ -1,13 +1,13 @@
 -- Shows that quotients, products and casts of floats that equal fractions are the roundings of those fractions in whole numbers.
-use Rattle.std.proofs.Common.{◌≡◌, ℕ, zero, suc, ◌+◌, ◌-◌, ◌*◌, ◌/◌, ◌%◌, ◌^◌, ◌<◌, ◌≤◌, min, Bool, true, false, cond, T, eqb, ltb, pos, negsuc, sym, refl, ap, ◌∙◌, subst, subst₂, true≢false, le_trans, le_of_eq, lt_of_le_of_lt, mul-le-mul_right, mul_assoc, suc-mul, mul_comm, div-lt_iff_lt-mul, mul-le-mul, lt_of_mul-lt-mul_right, mul-lt-mul_of_pos_right, mul-pos, one-mul, mul-one, div-le_self, mul_right_comm, div-mul-le_self, mul-div_cancel, mul_left_comm, arith, lit<, lit≤, lt→ltb, ne_eqb}
+use Rattle.std.proofs.Common.{◌≡◌, ℕ, suc, ◌+◌, ◌-◌, ◌*◌, ◌/◌, ◌^◌, ◌<◌, ◌≤◌, true, false, T, eqb, pos, sym, ap, ◌∙◌, subst, subst₂, true≢false, le_trans, le_of_eq, lt_of_le_of_lt, mul-le-mul_right, mul_assoc, suc-mul, mul_comm, div-lt_iff_lt-mul, mul-le-mul, lt_of_mul-lt-mul_right, mul-lt-mul_of_pos_right, mul-pos, one-mul, mul-one, div-le_self, mul_right_comm, div-mul-le_self, mul-div_cancel, mul_left_comm, arith, lit<, lit≤, lt→ltb, ne_eqb}
 use native.Mathlib.Nat.{div-div-eq-div-mul, pow-le-pow_right, mul-mul-mul_comm}
-use lib.Ieee.{Float, nan, inf, fin, Format, binary64, up, down, round, mul, div, lt, to_unsigned, of_int, size}
+use lib.Ieee.{Float, nan, inf, fin, binary64, up, down, round, mul, div, lt, to_unsigned, of_int, size}
 use lib.Ieee.Exact.{HasValue}
 use lib.Ieee.Fits.{up_pos, down_pos, nearest-le}
 use lib.Ieee.Digits.{size-le}
 use Rattle.rules.specs.Rounding.{closest, rounded, weighed_size}
-use lib.Ieee.Positive.{num, den, den_pos, value→cross, first_pos}
-use lib.Ieee.Scale.{round_same, round_val, grid, overflow}
+use lib.Ieee.Positive.{first_pos}
+use lib.Ieee.Scale.{round_same, round_val}
 use lib.Ieee.Back.{round_whole}
 use lib.Ieee.Nearest.{div_same}
 

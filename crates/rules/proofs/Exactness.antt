@@ -1,5 +1,5 @@
 -- Times, fitting, sums and the opening are exact at their bounds.
-use Rattle.std.proofs.Common.{◌≡◌, ℕ, zero, suc, ◌+◌, ◌-◌, ◌*◌, ◌/◌, ◌<◌, Bool, false, eqb, ltb, leb, length, Some, None, Option, refl, ap, ◌∙◌, inl, inr, arith}
+use Rattle.std.proofs.Common.{◌≡◌, ℕ, zero, suc, ◌+◌, ◌*◌, ◌/◌, ◌<◌, Bool, false, eqb, ltb, leb, length, Some, None, Option, refl, ap, ◌∙◌, inl, inr, arith}
 use Rattle.std.proofs.lemmas.Bool.{cases_Bool, le-leb, lt-leb, lt-ltb, eq-eqb, ne_eqb, or_left, or_right, or_from, and_left, and_right, and_from}
 use Rattle.sketch.specs.Powers.{doubled, least_power}
 use Rattle.sketch.specs.Sketches.{Sketch, made_for, opens_over, ensured}
@@ -7,7 +7,6 @@ use Rattle.times.specs.Expiry as times
 use Rattle.rules.specs.declared.choices.Choices.{Choices}
 use Rattle.rules.specs.Entries.{Entry}
 use Rattle.rules.specs.Opening.{opening_size, opens, opening}
-use Rattle.rules.specs.Passes.{expired}
 use Rattle.rules.specs.Laws.{Expires, FitsExactly, SumStops, Opens}
 
 -- a time that still runs is not over

@@ -1,8 +1,8 @@
 -- Entries that leave one by one leave as they do in one list, and what each pass still has to take is then what is left of it.
-use Rattle.std.proofs.Common.{◌≡◌, ℕ, zero, suc, ◌+◌, ◌-◌, ◌<◌, ◌≤◌, Bool, true, false, cond, eqb, List, [], ◌∷◌, ◌++◌, map, length, take, Some, None, Option, sym, refl, ap, ◌∙◌, subst, inl, inr, arith}
-use Rattle.std.proofs.lemmas.Bool.{cases_Bool, eqb-true, eq-eqb, ne_eqb}
+use Rattle.std.proofs.Common.{◌≡◌, ℕ, zero, suc, ◌+◌, ◌-◌, ◌<◌, ◌≤◌, Bool, true, false, eqb, List, [], ◌∷◌, ◌++◌, map, length, take, sym, refl, ap, ◌∙◌, subst, inl, inr, arith}
+use Rattle.std.proofs.lemmas.Bool.{cases_Bool, eq-eqb, ne_eqb}
 use Rattle.std.proofs.lemmas.List.{length-append}
-use Rattle.rules.specs.Fronts.{without, passing, freeing, first, among, ahead, looked, In, tally}
+use Rattle.rules.specs.Fronts.{without, passing, freeing, among, In, tally}
 use Rattle.sketch.specs.Sketches.{Sketch}
 use Rattle.rules.specs.declared.choices.Choices.{Choices}
 use Rattle.rules.specs.declared.departure.Cause.{Cause}
@@ -11,7 +11,7 @@ use Rattle.rules.specs.Entries.{Entry, State}
 use Rattle.rules.specs.Limits.{excess}
 use Rattle.rules.specs.Passes.{cells_of, leave, told, written, lived_out, idled_out, life_pass, idle_pass, trim_pass, after_life, after_idle, passed, passes_told}
 use Rattle.rules.specs.Apart.{Apart}
-use Rattle.rules.proofs.Fronts.{tally_without, in_tally, first_in, in_take, in_passing, in_freeing, in_looked, looked_without}
+use Rattle.rules.proofs.Fronts.{tally_without, in_tally, in_take, in_passing, in_freeing, in_looked, looked_without}
 use Rattle.rules.proofs.Erasing.{in_stays}
 use Rattle.rules.proofs.Settling.{without_twice}
 use Rattle.rules.proofs.Telling.{tally_take, tally_passing, tally_freeing, tally_looked, in_among}

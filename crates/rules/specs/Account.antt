@@ -1,5 +1,5 @@
 -- What holds of every list of calls.
-use Rattle.std.specs.Prelude.{◌≡◌, ℕ, ◌+◌, ◌-◌, ◌^◌, ◌<◌, ◌≤◌, true, false, cond, ◌≢◌, ◌⊎◌, List, [], ◌∷◌, ◌++◌, map, length, take, Some, None, Option, nat_eq, nat_le}
+use Rattle.std.specs.Prelude.{◌≡◌, ℕ, ◌^◌, ◌<◌, ◌≤◌, true, false, cond, ◌≢◌, ◌⊎◌, List, [], ◌∷◌, ◌++◌, map, length, take, Some, None, Option, nat_eq, nat_le}
 use Rattle.rules.specs.Fronts.{In, tally}
 use Rattle.sketch.specs.Sketches.{frequency}
 use Rattle.rules.specs.declared.choices.Choices.{Choices}

@@ -1,5 +1,5 @@
 -- What a line asks of a queue.
-use Rattle.std.specs.Prelude.{ℕ, cond, List, [], ◌∷◌, codes}
+use Rattle.std.specs.Prelude.{ℕ, cond, List, codes}
 use Rattle.std.specs.Str.{bytes_eq}
 use Rattle.script.specs.declared.command.Command.TheVariants.{MakeQueue, Queue, ListQueue}
 use Rattle.script.specs.declared.command.Reading.{Reading}

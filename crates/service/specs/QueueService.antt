@@ -1,6 +1,6 @@
 -- What a queue is asked for by a script, what it answers, and what it then holds. A queue is here the list of its linked nodes
 -- with their elements, front first, and n the number of nodes that are lent.
-use Rattle.std.specs.Prelude.{ℕ, Bool, true, false, cond, List, Some, None, Ok, Err, Option, Result}
+use Rattle.std.specs.Prelude.{ℕ, cond, List, Some, None, Ok, Err, Option, Result}
 use Rattle.script.specs.declared.answer.Answer.{Answer}
 use Rattle.script.specs.declared.answer.Answer.TheVariants as answer
 use Rattle.script.specs.declared.command.QueueCommand.{QueueCommand}

@@ -5,7 +5,7 @@ use Rattle.std.proofs.lemmas.List.{drop_at, length-take-le}
 use Rattle.sketch.specs.declared.table.Table.{Table}
 use Rattle.sketch.specs.Sketches.{Sketch}
 use Rattle.sketch.specs.Meaning.{lent_words, sketch_in, Fits, Becomes}
-use Rattle.sketch.proofs.Parts.{put_length, put_front, put_beyond, length_front}
+use Rattle.sketch.proofs.Parts.{put_length, put_front, put_beyond}
 
 -- a sketch is its three parts
 same_parts : (w v : List ℕ) (a b m n : ℕ) → w ≡ v → a ≡ b → m ≡ n

@@ -1,13 +1,13 @@
-use Rattle.std.proofs.Common.{◌≡◌, ℕ, zero, suc, ◌+◌, ◌-◌, ◌*◌, ◌/◌, ◌%◌, ◌^◌, ◌<◌, ◌≤◌, min, Bool, true, false, cond, ◌||◌, ltb, ◌≢◌, List, [], ◌∷◌, ◌++◌, map, length, get_or, take, drop, set, sym, refl, ap, ◌∙◌, subst, ⊎_elim, mul_assoc, add-mul, add-one, arith, lit<, length-set, get_or-set_other, get_or-set_same, pow_pos}
+use Rattle.std.proofs.Common.{◌≡◌, ℕ, zero, suc, ◌+◌, ◌-◌, ◌*◌, ◌/◌, ◌%◌, ◌^◌, ◌<◌, ◌≤◌, min, Bool, false, ◌||◌, ltb, ◌≢◌, List, [], ◌++◌, map, length, get_or, take, drop, set, sym, refl, ap, ◌∙◌, subst, ⊎_elim, mul_assoc, add-mul, add-one, arith, length-set, get_or-set_other, get_or-set_same}
 use native.Mathlib.Nat.{add-mul-mod_self_left, mod-add-div, zero-div}
 use lib.Bits.{bit_and, and_mask}
 use lib.Seq.{set-get_or}
 use Rattle.std.proofs.lemmas.List.{set_past, drop_more, get_or_at, length-map, length-take-le}
-use Rattle.std.proofs.lemmas.Bool.{lt-ltb, le-ltb, ltb-false, or_parts, cases_lt, cases_eq}
-use Rattle.sketch.specs.Counters.{counter, raised, counters, packed, halved, odds}
+use Rattle.std.proofs.lemmas.Bool.{ltb-false, or_parts, cases_lt, cases_eq}
+use Rattle.sketch.specs.Counters.{counter, raised}
 use Rattle.sketch.specs.Powers.{PowerOfTwo}
-use Rattle.sketch.specs.Tables.{place, number, held, estimate, raised_at, raised_all, rises, seeds, mixed, spread}
-use Rattle.sketch.proofs.Word.{counter_lt, counter_raised_same, counter_raised_other, raised_full}
+use Rattle.sketch.specs.Tables.{place, number, held, estimate, raised_at, raised_all, rises, mixed, spread}
+use Rattle.sketch.proofs.Word.{counter_lt, counter_raised_other, raised_full}
 
 mul_mod_l : (x s m : ℕ) → (x % m * s) % m ≡ (x * s) % m
 mul_mod_l x s m =

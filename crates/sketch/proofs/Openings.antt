@@ -1,7 +1,7 @@
 -- Shows what opening comes to in each of its cases, and that the table which it makes has the least power of two of words.
-use Rattle.std.proofs.Common.{◌≡◌, ℕ, ◌<◌, ◌≤◌, min, max, Bool, true, false, cond, ◌&&◌, eqb, ltb, leb, List, length, replicate, sym, refl, ap, ◌∙◌, subst, ⊎_elim, arith, pow_pos, eqb-true}
+use Rattle.std.proofs.Common.{◌≡◌, ℕ, ◌<◌, ◌≤◌, true, false, ◌&&◌, eqb, ltb, leb, length, sym, ap, ◌∙◌, subst, arith, pow_pos, eqb-true}
 use Rattle.std.proofs.lemmas.List.{length-replicate}
-use Rattle.std.proofs.lemmas.Bool.{le-leb, lt-leb, leb-true, lt-ltb, le-ltb, and_parts, and_left, and_right}
+use Rattle.std.proofs.lemmas.Bool.{le-leb, lt-leb, leb-true, lt-ltb, le-ltb, and_parts, and_right}
 use Rattle.sketch.specs.Powers.{least_power, LeastPower}
 use Rattle.sketch.specs.Sketches.{Sketch, closed, opens_over, made_for, fresh, opened, ensured}
 use Rattle.sketch.proofs.Powers.{least_power_is, least_within}

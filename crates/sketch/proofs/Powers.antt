@@ -1,6 +1,5 @@
 -- Shows that `least_power` is the least power of two not below a number, and that what `next_power_of_two` promises pins it.
-use Rattle.std.proofs.Common.{◌≡◌, ℕ, zero, suc, ◌+◌, ◌-◌, ◌*◌, ◌/◌, ◌%◌, ◌^◌, ◌<◌, ◌≤◌, min, max, Bool, true, false, cond, ltb, ◌≢◌, sym, refl, ap, ◌∙◌, subst, ⊎_elim, mul_assoc, mul_comm, pow-suc, arith, pow_pos, pow_mono}
-use lib.Pow.{pow-lt}
+use Rattle.std.proofs.Common.{◌≡◌, ℕ, zero, suc, ◌*◌, ◌/◌, ◌^◌, ◌<◌, ◌≤◌, max, sym, refl, ap, ◌∙◌, subst, ⊎_elim, mul_assoc, mul_comm, pow-suc, arith, pow_pos, pow_mono}
 use Rattle.std.proofs.lemmas.Bool.{lt-ltb, le-ltb, cases_lt}
 use Rattle.sketch.specs.Powers.{PowerOfTwo, doubled, least_power, LeastPower}
 

@@ -7,7 +7,7 @@ use Rattle.std.proofs.lemmas.Bool.{cases_lt, cases_eq}
 use Rattle.sketch.specs.Counters.{counter, raised}
 use Rattle.sketch.specs.Tables.{place, number, held, raised_at, raised_all, seeds, spread, mixed}
 use Rattle.sketch.specs.Sketches.{Sketch}
-use Rattle.sketch.specs.Laws.{NoneOfFour, Raises}
+use Rattle.sketch.specs.Laws.{Raises}
 use Rattle.sketch.proofs.Word.{counter_lt, counter_raised_same}
 use Rattle.sketch.proofs.Depths.{raised_to, raised_to_all, length_raised_to, held_raised_to, held_raised_at_other, set_raised_other}
 

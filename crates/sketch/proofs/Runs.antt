@@ -1,6 +1,6 @@
 -- Shows the laws of an increment over its outcomes, and over runs of increments: fewer than the sample never halve, and until a
 -- halving a frequency is at least the smaller of 15 and the increments of its hash.
-use Rattle.std.proofs.Common.{◌≡◌, ℕ, ◌+◌, ◌-◌, ◌*◌, ◌/◌, ◌<◌, ◌≤◌, min, Bool, true, false, cond, eqb, List, [], ◌∷◌, length, get_or, replicate, count_by, sym, refl, ap, ◌∙◌, subst, ⊎_elim, le_refl, arith, pow_pos}
+use Rattle.std.proofs.Common.{◌≡◌, ℕ, ◌+◌, ◌<◌, ◌≤◌, min, Bool, cond, eqb, List, [], ◌∷◌, length, get_or, count_by, sym, refl, ap, ◌∙◌, subst, ⊎_elim, le_refl, arith, pow_pos}
 use Rattle.std.proofs.lemmas.List.{get_or-map, length-replicate}
 use Rattle.std.proofs.lemmas.List.Sums.{sum_by-cons}
 use Rattle.std.proofs.lemmas.Bool.{eq-eqb, ne_eqb, cases_eq}
@@ -8,14 +8,14 @@ use Rattle.sketch.specs.declared.increment.Increment.{Increment}
 use Rattle.sketch.specs.declared.increment.Increment.TheVariants.{Closed, Full, Counted, Halved}
 use Rattle.sketch.specs.Counters.{counter, halved}
 use Rattle.sketch.specs.Powers.{least_power}
-use Rattle.sketch.specs.Tables.{held, estimate, raised_all, halved_all, odds_all}
+use Rattle.sketch.specs.Tables.{held, estimate, halved_all}
 use Rattle.sketch.specs.Sketches.{Sketch, frequency, fresh, opened, made_for, counted, halved_sketch, outcome, after, incremented}
 use Rattle.sketch.specs.Laws.{HalvingHalves, IncrementRaises, run, NeverHalves, FewNeverHalve, FrequencyIsAtLeast, EarlyFrequencyIsAtLeast}
 use Rattle.sketch.proofs.Word.{counter_halved}
 use Rattle.sketch.proofs.Depths.{raised_to, raised_to_all, length_raised_to, held_lt, raised_all_full}
 use Rattle.sketch.proofs.Powers.{least_power_is}
 use Rattle.sketch.proofs.Raising.{raises, raised_to_self, raised_to_mono}
-use Rattle.sketch.proofs.Cases.{Case, at_closed, at_full, at_counted, at_halved, case_of, incremented_by}
+use Rattle.sketch.proofs.Cases.{at_closed, at_full, at_counted, at_halved, case_of, incremented_by}
 
 -- ---- one call
 

@@ -1,5 +1,4 @@
-use Rattle.std.proofs.Common.{◌≡◌, ℕ, zero, suc, ◌+◌, ◌-◌, ◌*◌, ◌/◌, ◌%◌, ◌^◌, ◌<◌, ◌≤◌, min, Bool, true, false, cond, ltb, ◌≢◌, List, [], ◌∷◌, map, get_or, sym, refl, ap, ◌∙◌, subst, ⊎_elim, pow-suc, mul-zero, mul-suc, div-one, arith, lit<, pow_pos, pow-add, shr-shr}
-use native.Mathlib.Nat.{pow-zero}
+use Rattle.std.proofs.Common.{◌≡◌, ℕ, zero, suc, ◌+◌, ◌*◌, ◌/◌, ◌%◌, ◌^◌, ◌<◌, ◌≤◌, min, ◌≢◌, map, get_or, sym, refl, ap, ◌∙◌, ⊎_elim, div-one, arith, lit<, pow-add, shr-shr}
 use lib.Bits.{bit_and, and_block, and_mask, and_zero_r}
 use lib.Count.{ones, ones_cat, ones_step}
 use Rattle.std.proofs.lemmas.Nat.{one_shl}

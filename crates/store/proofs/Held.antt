@@ -1,8 +1,8 @@
 -- Entries of cells, in the order of their places: what becomes of them where a cell is freed or gets another entry.
-use Rattle.std.proofs.Common.{◌≡◌, ℕ, suc, ◌+◌, ◌≤◌, Bool, true, false, cond, eqb, ◌⊎◌, List, [], ◌∷◌, ◌++◌, length, is_some, Some, None, Option, sym, refl, ap, ◌∙◌, subst, inl, inr, arith}
+use Rattle.std.proofs.Common.{◌≡◌, ℕ, suc, ◌≤◌, Bool, true, false, cond, eqb, List, [], ◌∷◌, ◌++◌, length, is_some, Some, None, Option, sym, refl, ap, ◌∙◌, inl, inr, arith}
 use Rattle.std.proofs.lemmas.Bool.{cases_Bool, cases_eq, eq-eqb, ne_eqb, eqb-true}
 use Rattle.std.specs.Option.{option_map}
-use Rattle.links.specs.Places.{is, has, distinct, without as cut}
+use Rattle.links.specs.Places.{has, distinct, without as cut}
 use Rattle.links.proofs.Orders.{head_apart, tail_apart, has_not_later, both_ways, eqb_same}
 use Rattle.table.specs.declared.cell.Entry.{Entry as Stored}
 use Rattle.index.specs.Lawful.{hit, Finds}

@@ -1,13 +1,12 @@
 -- Records of a queue: what is found after one was dropped, pushed, replaced or moved, and how a queue follows the cells.
-use Rattle.std.proofs.Common.{◌≡◌, ℕ, suc, ◌+◌, Bool, true, false, cond, eqb, ◌⊎◌, List, [], ◌∷◌, ◌++◌, length, is_some, Some, None, Option, sym, refl, ap, ◌∙◌, inl, inr, arith}
-use Rattle.std.proofs.lemmas.Bool.Decides.{nat_tests}
-use Rattle.std.proofs.lemmas.Bool.{cases_Bool, cases_eq, eq-eqb, ne_eqb, eqb-true}
+use Rattle.std.proofs.Common.{◌≡◌, ℕ, ◌+◌, Bool, true, false, cond, eqb, List, [], ◌∷◌, ◌++◌, length, is_some, Some, None, Option, sym, refl, ap, ◌∙◌, inl, inr, arith}
+use Rattle.std.proofs.lemmas.Bool.{cases_Bool, cases_eq, eq-eqb, ne_eqb}
 use Rattle.std.proofs.lemmas.List.{length-append}
 use Rattle.std.specs.Option.{option_map}
 use Rattle.links.specs.Places.{has, distinct, without as cut}
 use Rattle.links.proofs.Orders.{head_apart, tail_apart, both_ways, eqb_same}
 use Rattle.deque.specs.Meaning.{places, dropped, pushed, found, replaced, entry, moved}
-use Rattle.deque.proofs.Orderly.{found_absent, entry_found, replaced_absent}
+use Rattle.deque.proofs.Orderly.{found_absent, entry_found}
 use Rattle.table.specs.declared.cell.Entry.{Entry as Stored}
 use Rattle.store.specs.Holding.{Follows, with_life}
 

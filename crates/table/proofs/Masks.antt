@@ -1,5 +1,5 @@
 -- The remainder by a power of two is a mask; a number that shares no digit with the one below it is a power.
-use Rattle.std.proofs.Common.{◌≡◌, ℕ, zero, suc, ◌+◌, ◌-◌, ◌*◌, ◌/◌, ◌%◌, ◌^◌, ◌<◌, ◌≤◌, min, ◌⊎◌, sym, refl, ap, ◌∙◌, inl, inr, pow-suc, arith}
+use Rattle.std.proofs.Common.{◌≡◌, ℕ, zero, suc, ◌+◌, ◌-◌, ◌*◌, ◌/◌, ◌%◌, ◌^◌, ◌<◌, ◌≤◌, min, sym, ap, ◌∙◌, inl, inr, pow-suc, arith}
 use lib.Bits.{bit_and, and_step, and_self, and_mask}
 use Rattle.std.proofs.lemmas.Bool.{cases_eq}
 

@@ -1,16 +1,16 @@
 -- What each call makes of what is held: the records that the calls promise, from the states that the writes leave.
-use Rattle.std.proofs.Common.{◌≡◌, ℕ, zero, suc, ◌+◌, ◌-◌, ◌%◌, ◌<◌, ◌≤◌, Bool, true, false, cond, eqb, ltb, ◌⊎◌, List, [], ◌∷◌, length, set, is_some, Some, None, Option, sym, refl, ap, ◌∙◌, subst, inl, inr, arith, length-set}
+use Rattle.std.proofs.Common.{◌≡◌, ℕ, ◌+◌, ◌%◌, ◌<◌, ◌≤◌, true, false, cond, eqb, ltb, List, [], ◌∷◌, length, set, is_some, Some, None, Option, sym, refl, ap, ◌∙◌, subst, inl, inr, arith, length-set}
 use Rattle.std.specs.List.{slice_get}
 use Rattle.std.proofs.lemmas.Bool.Decides.{nat_tests}
-use Rattle.std.proofs.lemmas.Bool.{cases_eq, cases_Bool, eqb-true, lt-ltb, le-ltb, ltb-true}
+use Rattle.std.proofs.lemmas.Bool.{cases_eq, cases_Bool, lt-ltb, le-ltb, ltb-true}
 use Rattle.table.specs.declared.cell.Cell.{Cell}
 use Rattle.table.specs.declared.cell.Entry.{Entry}
 use Rattle.links.specs.declared.Link.{Link}
 use Rattle.table.specs.declared.vacancy.Vacancy.{Vacancy}
-use Rattle.links.specs.Links.{goes_to, nowhere, most}
-use Rattle.links.specs.Places.{is, pick, first, has, before, count}
-use Rattle.table.specs.Chain.{State, capacity, chain_in, link_in, spot_in, entry_in, link_of, link, spot, entry_at, live, head_of, head_at, prior, Chain, chain, Sound}
-use Rattle.table.specs.Edits.{edited_at, anew, chain_to, filled, emptied, join_state, freed, part_state, renew_state}
+use Rattle.links.specs.Links.{goes_to}
+use Rattle.links.specs.Places.{is, pick, first, has, before}
+use Rattle.table.specs.Chain.{State, capacity, chain_in, link_in, spot_in, entry_in, link_of, link, spot, entry_at, live, head_of, head_at, prior, chain, Sound}
+use Rattle.table.specs.Edits.{edited_at, anew, chain_to, emptied, join_state, freed, part_state, renew_state}
 use Rattle.table.specs.Calls.{anew_in, Marked, vacancy_of, vacancy_in, Took, Parted, Renewed, Emptied}
 use Rattle.links.proofs.Orders
 use Rattle.table.proofs.Memory

@@ -1,19 +1,18 @@
 -- The state stays sound when a cell is taken, given up or renewed, and what each cell then holds.
-use Rattle.std.proofs.Common.{◌≡◌, ℕ, zero, suc, ◌+◌, ◌-◌, ◌%◌, ◌<◌, ◌≤◌, min, Bool, true, false, cond, eqb, ltb, ◌⊎◌, List, [], ◌∷◌, length, set, is_some, Some, None, Option, sym, refl, ap, ◌∙◌, subst, inl, inr, arith, length-set}
+use Rattle.std.proofs.Common.{◌≡◌, ℕ, ◌+◌, ◌-◌, ◌%◌, ◌<◌, ◌≤◌, Bool, true, false, cond, eqb, ltb, List, [], ◌∷◌, length, set, is_some, Some, None, Option, sym, refl, ap, ◌∙◌, inl, inr, arith, length-set}
 use mathlib.Core.Logic.{∥∥₁_elim}
 use native.Mathlib.Bridge as order
-use base.Stored.{Coded, Coded-set, coded_ℕ, coded_bool, coded_list, coded_via}
+use base.Stored.{Coded-set, coded_ℕ, coded_bool, coded_list, coded_via}
 use Rattle.std.specs.List.{slice_get}
-use Rattle.std.proofs.lemmas.Option.{slice_get_past}
 use Rattle.std.proofs.lemmas.Bool.Decides.{nat_tests}
-use Rattle.std.proofs.lemmas.Bool.{cases_eq, cases_Bool, eqb-true, lt-ltb, le-ltb, ltb-true}
+use Rattle.std.proofs.lemmas.Bool.{cases_eq, cases_Bool, eqb-true, lt-ltb, ltb-true}
 use Rattle.table.specs.declared.cell.Cell.{Cell}
 use Rattle.table.specs.declared.cell.Entry.{Entry}
 use Rattle.links.specs.declared.Link.{Link}
-use Rattle.links.specs.Links.{most, goes_to, to_place, nowhere}
-use Rattle.links.specs.Places.{is, pick, first, has, after, before_from, before, distinct, without, seek, count}
-use Rattle.table.specs.Chain.{State, capacity_of, capacity, link_in, spot_in, entry_in, link, spot, entry_at, live, head_in, head_of, head_at, walk, prior, Chain, chain, Sound}
-use Rattle.table.specs.Edits.{edited, edited_at, chain_to, filled, emptied, link_or, join_state, freed, relinked, vacated, part_state, renew_state}
+use Rattle.links.specs.Links.{most, goes_to, to_place}
+use Rattle.links.specs.Places.{is, pick, first, has, before, count}
+use Rattle.table.specs.Chain.{State, capacity_of, capacity, link_in, spot_in, entry_in, link, spot, entry_at, live, head_in, head_of, head_at, Chain, chain, Sound}
+use Rattle.table.specs.Edits.{edited_at, chain_to, filled, emptied, link_or, join_state, freed, part_state, renew_state}
 use Rattle.links.proofs.Orders
 use Rattle.table.proofs.Memory
 use Rattle.table.proofs.Chains

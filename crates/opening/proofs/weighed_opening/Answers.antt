@@ -1,4 +1,4 @@
-use Rattle.std.proofs.Common.{◌≡◌, ◌∙◌}
+use Rattle.std.proofs.Common.{◌∙◌}
 use Rattle.opening.proofs.Fractions as fractions
 use Rattle.opening.proofs.weighed_opening.Goals as goal
 

@@ -1,6 +1,5 @@
 -- A node is a member exactly where its mark is set; no member stands twice, and each is lent.
-use Rattle.std.proofs.Common.{ℕ, List, sym, refl, ap, ◌∙◌}
-use Rattle.links.specs.Places.{has}
+use Rattle.std.proofs.Common.{sym, ◌∙◌}
 use Rattle.deque.specs.Chain.{state}
 use Rattle.deque.proofs.Soundness.{out}
 use Rattle.deque.proofs.Items.{member}

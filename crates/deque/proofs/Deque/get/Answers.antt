@@ -1,5 +1,5 @@
 -- The element of a linked node is the one that lies in it; a node that is not linked has none.
-use Rattle.std.proofs.Common.{true, false, Some, None, sym, ap, ◌∙◌}
+use Rattle.std.proofs.Common.{true, false, Some, None, sym, ap}
 use Rattle.deque.specs.Views.{view_of}
 use Rattle.deque.specs.Chain.{state, meaning}
 use Rattle.deque.specs.Meaning.{found_answer}

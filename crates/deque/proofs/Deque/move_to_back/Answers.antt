@@ -1,5 +1,5 @@
 -- Three ways: the node is not linked, it is the last, or it is sent behind all others.
-use Rattle.std.proofs.Common.{true, false, length, Some, None, Ok, Err, sym, refl, ap, ◌∙◌}
+use Rattle.std.proofs.Common.{true, false, length, Some, None, Ok, Err, sym, refl}
 use Rattle.deque.specs.declared.refusal.Refusal.TheVariants.{NotLinked}
 use Rattle.deque.specs.Views.{view_of, element_of}
 use Rattle.deque.specs.Chain.{state, meaning}

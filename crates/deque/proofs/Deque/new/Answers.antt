@@ -1,5 +1,5 @@
 -- The part that is lent, with every node out, is an empty queue, and its elements are those of the slice.
-use Rattle.std.proofs.Common.{sym, refl, ap, ◌∙◌, arith}
+use Rattle.std.proofs.Common.{refl, ◌∙◌, arith}
 use Rattle.deque.specs.Views.{views}
 use Rattle.deque.proofs.Memory.{part_size, part_element}
 use Rattle.deque.proofs.Outcomes.{empty_kept}

@@ -1,5 +1,5 @@
 -- A node that is lent and out goes behind all others; any other is refused.
-use Rattle.std.proofs.Common.{true, false, length, Some, None, Ok, Err, sym, refl, ◌∙◌, arith}
+use Rattle.std.proofs.Common.{true, false, length, Some, None, Ok, Err, refl, arith}
 use Rattle.deque.specs.declared.refusal.Refusal.TheVariants.{NotFree}
 use Rattle.deque.specs.Views.{element_of}
 use Rattle.deque.specs.Chain.{state, meaning}

@@ -1,5 +1,5 @@
 -- A linked node is taken out, and is then no member; any other is refused.
-use Rattle.std.proofs.Common.{ℕ, true, false, List, length, Some, None, Ok, Err, sym, refl, ap, ◌∙◌}
+use Rattle.std.proofs.Common.{ℕ, true, false, List, length, Some, None, Ok, Err, refl, ap, ◌∙◌}
 use Rattle.deque.specs.declared.refusal.Refusal.TheVariants.{NotLinked}
 use Rattle.links.specs.Places.{has}
 use Rattle.deque.specs.Views.{view_of, element_of}

@@ -1,7 +1,7 @@
 -- In a fresh line there is room for number 0, who is then in front.
-use Rattle.std.proofs.Common.{◌≡◌, ℕ, ◌<◌, true, cond, List, length, set, sym, ap, ◌∙◌, arith}
+use Rattle.std.proofs.Common.{ℕ, ◌<◌, cond, List, length, ap, ◌∙◌, arith}
 use Rattle.deque.specs.Meaning.{lent, pushed}
-use Rattle.deque_edges.specs.Waiting.{line_of, can_come}
+use Rattle.deque_edges.specs.Waiting.{line_of}
 use Rattle.deque_edges.proofs.Serving.{first_comes, first_called}
 use Rattle.deque_edges.proofs.calls.serve_one.Goals as goal
 

@@ -1,4 +1,4 @@
-use Rattle.std.proofs.Common.{◌≡◌, None, sym, refl, ap, ◌∙◌}
+use Rattle.std.proofs.Common.{None, sym, refl, ap, ◌∙◌}
 use Rattle.table.specs.Chain.{state, link_in, key_in, link_of, key_of}
 use Rattle.table.proofs.Chains.{seek_end, seek_met, seek_on}
 use Rattle.index.proofs.search.seek_key.Goals as goal

@@ -1,4 +1,4 @@
-use Rattle.std.proofs.Common.{◌≡◌, ℕ, false, List, [], ◌∷◌, Some, None, sym, ap, ◌∙◌, arith}
+use Rattle.std.proofs.Common.{◌≡◌, ℕ, false, List, [], ◌∷◌, Some, sym, ap, ◌∙◌, arith}
 use Rattle.script.specs.declared.command.Line.{Line}
 use Rattle.script.specs.Lines.{words, first, others}
 use Rattle.script.specs.LineReadings.{line_of, named, comment_word}

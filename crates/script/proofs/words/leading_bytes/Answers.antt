@@ -1,4 +1,4 @@
-use Rattle.std.proofs.Common.{◌≡◌, Bool, true, false, sym, ap, ◌∙◌, arith}
+use Rattle.std.proofs.Common.{sym, ap, ◌∙◌, arith}
 use Rattle.script.specs.Runs.{as_asked}
 use Rattle.script.proofs.Fronts.{leading_more, leading_ends, leading_all, differs, agrees}
 use Rattle.script.proofs.words.leading_bytes.Goals as goal

@@ -1,4 +1,4 @@
-use Rattle.std.proofs.Common.{◌≡◌, arith}
+use Rattle.std.proofs.Common.{arith}
 use Rattle.sketch.specs.Meaning.{meaning}
 use Rattle.sketch.proofs.Runs.{at_least, early_at_least, frequency_most}
 use Rattle.sketch.proofs.FrequencySketch.frequency.Goals as goal

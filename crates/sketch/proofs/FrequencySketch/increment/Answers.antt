@@ -1,4 +1,4 @@
-use Rattle.std.proofs.Common.{◌≡◌, sym, ap, ◌∙◌, subst}
+use Rattle.std.proofs.Common.{◌≡◌, sym, subst}
 use Rattle.sketch.specs.declared.increment.Increment.{Increment}
 use Rattle.sketch.specs.Sketches.{Sketch, outcome, incremented}
 use Rattle.sketch.specs.Laws.{IncrementRaises}

@@ -1,5 +1,5 @@
-use Rattle.std.proofs.Common.{◌≡◌, ◌≤◌, sym, subst, arith, rules}
-use Rattle.sketch.specs.Sketches.{Sketch, halved_sketch}
+use Rattle.std.proofs.Common.{sym, subst}
+use Rattle.sketch.specs.Sketches.{Sketch}
 use Rattle.sketch.specs.Laws.{HalvingHalves}
 use Rattle.sketch.specs.Meaning.{sketch_in, meaning}
 use Rattle.sketch.proofs.Runs.{halving_halves}

@@ -1,8 +1,6 @@
-use Rattle.std.proofs.Common.{◌≡◌, ℕ, ◌+◌, ◌^◌, ◌<◌, ◌≤◌, length, get_or, sym, refl, ap, ◌∙◌, arith}
-use lib.Bits.{bit_and}
+use Rattle.std.proofs.Common.{◌≡◌, refl, ap, ◌∙◌, arith}
 use mir.Facts.{Fits-below}
-use Rattle.sketch.specs.Counters.{counter}
-use Rattle.sketch.specs.Tables.{held, number, place}
+use Rattle.sketch.specs.Tables.{held}
 use Rattle.sketch.proofs.Depths.{least_to, least_to_all, least_to_le, least_to_more, number_is}
 use Rattle.sketch.proofs.counters.estimate_in.Goals as goal
 

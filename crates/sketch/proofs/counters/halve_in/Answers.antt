@@ -1,5 +1,4 @@
-use Rattle.std.proofs.Common.{◌≡◌, ℕ, ◌+◌, ◌/◌, ◌^◌, ◌<◌, ◌≤◌, [], ◌++◌, map, length, get_or, take, drop, set, sum_by, sym, refl, ap, ◌∙◌, arith}
-use lib.Bits.{bit_and}
+use Rattle.std.proofs.Common.{ℕ, ◌<◌, ◌≤◌, map, length, get_or, set, sum_by, ap, ◌∙◌, arith}
 use mir.Facts.{Fits-of_lt}
 use Rattle.std.proofs.lemmas.List.{take_all, drop_all, append-nil, get_or_default}
 use Rattle.std.proofs.lemmas.List.Sums.{sum_by_more}

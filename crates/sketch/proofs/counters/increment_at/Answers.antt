@@ -1,4 +1,4 @@
-use Rattle.std.proofs.Common.{◌≡◌, ℕ, ◌^◌, ◌<◌, ◌≤◌, get_or, set, sym, ap, arith}
+use Rattle.std.proofs.Common.{ℕ, ◌^◌, ◌<◌, ◌≤◌, get_or, set, sym, ap, arith}
 use lib.Seq.{set-get_or}
 use mir.Facts.{Fits-of_lt}
 use Rattle.std.proofs.lemmas.Bool.{lt-ltb, le-ltb}

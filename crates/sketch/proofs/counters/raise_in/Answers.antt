@@ -1,6 +1,5 @@
-use Rattle.std.proofs.Common.{◌≡◌, ℕ, ◌+◌, ◌^◌, ◌<◌, ◌≤◌, length, get_or, sym, refl, ap, ◌∙◌, le_refl, arith}
-use Rattle.sketch.specs.Counters.{counter}
-use Rattle.sketch.specs.Tables.{held, number, place, raised_at}
+use Rattle.std.proofs.Common.{◌≡◌, refl, ap, ◌∙◌, le_refl, arith}
+use Rattle.sketch.specs.Tables.{held, raised_at}
 use Rattle.sketch.proofs.Depths.{raised_to, rises_to, raised_to_all, rises_to_all, raised_to_more, rises_to_more, held_raised_to, number_is}
 use Rattle.sketch.proofs.counters.raise_in.Goals as goal
 

@@ -1,4 +1,3 @@
-use Rattle.std.proofs.Common.{arith}
 use Rattle.table.specs.Chain.{link_of}
 use Rattle.table.proofs.Chains.{prior_end, prior_met, prior_on}
 use Rattle.table.proofs.chained.before.Goals as goal

@@ -1,7 +1,7 @@
 -- After the neighbours are joined the nodes are as many as before, so node i is lent still.
-use Rattle.std.proofs.Common.{length, ap, arith}
+use Rattle.std.proofs.Common.{arith}
 use Rattle.links.specs.Links.{goes_to}
-use Rattle.deque.specs.Chain.{State, state}
+use Rattle.deque.specs.Chain.{state}
 use Rattle.deque.proofs.Memory.{length_views, length_bridge}
 use Rattle.deque.proofs.chain.Chain.cut.Goals as goal
 

@@ -1,4 +1,4 @@
-use Rattle.std.proofs.Common.{◌≡◌, ℕ, true, Some, Option, sym, refl, ap, ◌∙◌, subst}
+use Rattle.std.proofs.Common.{◌≡◌, ℕ, true, Some, Option, sym, ◌∙◌, subst}
 use Rattle.index.specs.Lawful.{hit, Finds, Lawful}
 use Rattle.index.specs.Meaning.{entries}
 use Rattle.index_edges.proofs.Putting.{replaced_there, taken_there}

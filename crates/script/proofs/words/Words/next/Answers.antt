@@ -1,4 +1,4 @@
-use Rattle.std.proofs.Common.{◌≡◌, ℕ, ◌-◌, ◌<◌, ◌≤◌, true, false, List, [], ◌∷◌, length, take, drop, Some, None, Option, sym, ap, ◌∙◌, arith}
+use Rattle.std.proofs.Common.{◌≡◌, ℕ, ◌-◌, ◌<◌, ◌≤◌, true, false, List, length, take, drop, Some, None, sym, ap, ◌∙◌, arith}
 use lib.Seq.{drop-nil}
 use Rattle.script.specs.Lines.{words, first, others}
 use Rattle.script.specs.Runs.{leading}

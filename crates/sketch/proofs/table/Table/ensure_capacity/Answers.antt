@@ -1,6 +1,6 @@
-use Rattle.std.proofs.Common.{◌≡◌, ℕ, ◌<◌, ◌≤◌, true, false, length, sym, refl, ap, ◌∙◌, subst, arith}
+use Rattle.std.proofs.Common.{◌≡◌, ◌<◌, ◌≤◌, true, false, length, sym, ap, ◌∙◌, subst, arith}
 use Rattle.sketch.specs.Powers.{least_power}
-use Rattle.sketch.specs.Sketches.{Sketch, opens_over, made_for, fresh, opened, ensured}
+use Rattle.sketch.specs.Sketches.{Sketch, opens_over, made_for, fresh, opened}
 use Rattle.sketch.specs.Meaning.{sketch_in, lent_words, Becomes}
 use Rattle.sketch.proofs.Becoming.{unchanged, table_length}
 use Rattle.sketch.proofs.Openings.{opening_words, made_within, table_within, stays_closed, stays_open, opens}

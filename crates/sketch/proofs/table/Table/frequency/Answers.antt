@@ -1,4 +1,4 @@
-use Rattle.std.proofs.Common.{◌≡◌, ℕ, ◌/◌, ◌<◌, List, take, sym, ap, ◌∙◌, arith}
+use Rattle.std.proofs.Common.{ℕ, ◌/◌, ◌<◌, List, take, sym, ap, ◌∙◌, arith}
 use Rattle.sketch.specs.Tables.{estimate}
 use Rattle.sketch.specs.Sketches.{frequency}
 use Rattle.sketch.specs.Meaning.{sketch_in}

@@ -1,11 +1,11 @@
-use Rattle.std.proofs.Common.{◌≡◌, ℕ, ◌+◌, ◌<◌, ◌≤◌, true, false, List, length, sym, refl, ap, ◌∙◌, subst, arith}
+use Rattle.std.proofs.Common.{◌≡◌, ℕ, ◌+◌, ◌<◌, true, false, length, sym, refl, ap, ◌∙◌, subst, arith}
 use Rattle.std.proofs.lemmas.List.{length-map}
 use Rattle.sketch.specs.declared.meter.Meter.{Meter}
 use Rattle.sketch.specs.declared.increment.Increment.TheVariants.{Closed, Full, Counted, Halved}
 use Rattle.sketch.specs.Counters.{halved}
 use Rattle.sketch.specs.Tables.{raised_all, rises, halved_all}
-use Rattle.sketch.specs.Sketches.{Sketch, with_words, with_size, counted, halved_sketch, outcome, incremented, after}
-use Rattle.sketch.specs.Meaning.{sketch_in, lent_words, Becomes}
+use Rattle.sketch.specs.Sketches.{Sketch, with_words, with_size, counted, halved_sketch, incremented, after}
+use Rattle.sketch.specs.Meaning.{sketch_in, Becomes}
 use Rattle.sketch.proofs.Depths.{raised_all_full}
 use Rattle.sketch.proofs.Becoming.{unchanged, then, resized, table_length}
 use Rattle.sketch.proofs.Cases.{is_closed, is_full, is_counted, is_halved, incremented_by}

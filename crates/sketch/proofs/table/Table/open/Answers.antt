@@ -1,4 +1,4 @@
-use Rattle.std.proofs.Common.{◌≡◌, ℕ, ◌*◌, ◌/◌, ◌<◌, ◌≤◌, length, replicate, refl, ap, ◌∙◌, arith, pow_pos}
+use Rattle.std.proofs.Common.{◌≡◌, ℕ, replicate, refl, ap, ◌∙◌}
 use Rattle.sketch.specs.Powers.{least_power}
 use Rattle.sketch.specs.Sketches.{fresh}
 use Rattle.sketch.proofs.Becoming.{front_written}

@@ -1,4 +1,4 @@
-use Rattle.std.proofs.Common.{◌≡◌, ℕ, ◌/◌, ◌<◌, List, sym, refl, ap, ◌∙◌}
+use Rattle.std.proofs.Common.{ℕ, ◌/◌, List, refl, ap, ◌∙◌}
 use Rattle.sketch.specs.Tables.{raised_all, rises}
 use Rattle.sketch.specs.Sketches.{with_words}
 use Rattle.sketch.specs.Meaning.{sketch_in}

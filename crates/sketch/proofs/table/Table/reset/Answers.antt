@@ -1,4 +1,4 @@
-use Rattle.std.proofs.Common.{◌≡◌, ℕ, ◌-◌, ◌/◌, ◌<◌, refl, ap, ◌∙◌, arith}
+use Rattle.std.proofs.Common.{refl, ap, ◌∙◌, arith}
 use Rattle.sketch.specs.Tables.{halved_all, odds_all}
 use Rattle.sketch.specs.Sketches.{halved_sketch, with_size}
 use Rattle.sketch.specs.Meaning.{sketch_in}

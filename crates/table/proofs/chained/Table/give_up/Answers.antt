@@ -1,4 +1,4 @@
-use Rattle.std.proofs.Common.{ℕ, length, None, sym, ap, ◌∙◌, arith}
+use Rattle.std.proofs.Common.{ℕ, length, None, ap, ◌∙◌, arith}
 use Rattle.table.specs.Chain.{State, state, prior, link_of, head_of}
 use Rattle.table.specs.Edits.{chain_to, vacated, part_state}
 use Rattle.table.proofs.Memory.{length_edited_at}

@@ -1,4 +1,4 @@
-use Rattle.std.proofs.Common.{length, sym, ap, ◌∙◌, arith}
+use Rattle.std.proofs.Common.{length, arith}
 use Rattle.table.specs.Chain.{state}
 use Rattle.table.proofs.Soundness as sound
 use Rattle.table.proofs.Outcomes as calls

@@ -1,4 +1,4 @@
-use Rattle.std.proofs.Common.{◌≡◌, ℕ, length, sym, ◌∙◌, arith}
+use Rattle.std.proofs.Common.{◌≡◌, ℕ, length, ◌∙◌, arith}
 use Rattle.table.specs.Chain.{state}
 use Rattle.table.proofs.Memory.{nth_some}
 use Rattle.table.proofs.Soundness.{capacity_cells}
