@@ -69,49 +69,49 @@ module _ {Key Value : Type 0} where
   leave_from s es e i = in_without (λ (x : Entry Key Value). among (cells_of es) x.cell) e s.touch i
 
   module _ (kind : Kind Key Value) (choices : Choices) (now : ℕ) (s : State Key Value) (k : Coherent kind s) where
-    abbrev A : List (Entry Key Value)
-    A = life_pass choices now s
+    abbrev lived : List (Entry Key Value)
+    lived = life_pass choices now s
 
-    abbrev B : List (Entry Key Value)
-    B = idle_pass choices now (after_life choices now s)
+    abbrev idled : List (Entry Key Value)
+    idled = idle_pass choices now (after_life choices now s)
 
-    abbrev C : List (Entry Key Value)
-    C = trim_pass choices now (after_idle choices now s)
+    abbrev trimmed : List (Entry Key Value)
+    trimmed = trim_pass choices now (after_idle choices now s)
 
-    all_from : From (A ++ (B ++ C)) s
+    all_from : From (lived ++ (idled ++ trimmed)) s
     all_from e i =
-        elim (in_append e A (B ++ C) i) [
+        elim (in_append e lived (idled ++ trimmed) i) [
           | inl a ↦ life_from kind choices now s e a
-          | inr j ↦ elim (in_append e B C j) [
-            | inl b ↦ leave_from s A e (idle_from kind choices now (after_life choices now s) e b)
-            | inr c ↦ leave_from s A e (leave_from (after_life choices now s) B e (trim_from kind choices now (after_idle choices now s) e c))
+          | inr j ↦ elim (in_append e idled trimmed j) [
+            | inl b ↦ leave_from s lived e (idle_from kind choices now (after_life choices now s) e b)
+            | inr c ↦ leave_from s lived e (leave_from (after_life choices now s) idled e (trim_from kind choices now (after_idle choices now s) e c))
           ]
         ]
 
-    tickets_told : told_by by_pass (passes_told choices now s) ≡ map ticket_of (A ++ (B ++ C))
+    tickets_told : told_by by_pass (passes_told choices now s) ≡ map ticket_of (lived ++ (idled ++ trimmed))
     unfolding passes_told
     tickets_told =
-        told_by_append by_pass (told LivedOut A) (told IdledOut B ++ told Trimmed C)
-        ∙ (λ i. told_yes by_pass LivedOut refl A i ++ told_by_append by_pass (told IdledOut B) (told Trimmed C) i)
-        ∙ (λ i. map ticket_of A ++ (told_yes by_pass IdledOut refl B i ++ told_yes by_pass Trimmed refl C i))
-        ∙ ap (λ (l : List ℕ). map ticket_of A ++ l) (sym (map-append ticket_of B C))
-        ∙ sym (map-append ticket_of A (B ++ C))
+        told_by_append by_pass (told LivedOut lived) (told IdledOut idled ++ told Trimmed trimmed)
+        ∙ (λ i. told_yes by_pass LivedOut refl lived i ++ told_by_append by_pass (told IdledOut idled) (told Trimmed trimmed) i)
+        ∙ (λ i. map ticket_of lived ++ (told_yes by_pass IdledOut refl idled i ++ told_yes by_pass Trimmed refl trimmed i))
+        ∙ ap (λ (l : List ℕ). map ticket_of lived ++ l) (sym (map-append ticket_of idled trimmed))
+        ∙ sym (map-append ticket_of lived (idled ++ trimmed))
 
-    removed : remove (map as_item (A ++ (B ++ C))) (ledger_of s) ≡ ledger_of (passed choices now s)
+    removed : remove (map as_item (lived ++ (idled ++ trimmed))) (ledger_of s) ≡ ledger_of (passed choices now s)
     unfolding passed
     removed =
-        ap (λ (is : List (Item Key Value)). remove is (ledger_of s)) (map-append as_item A (B ++ C) ∙ ap (λ (is : List (Item Key Value)). map as_item A ++ is) (map-append as_item B C))
-        ∙ remove_append (map as_item A) (map as_item B ++ map as_item C) (ledger_of s)
-        ∙ ap (remove (map as_item B ++ map as_item C)) (sym (leave_erase kind s k A (life_from kind choices now s)))
-        ∙ remove_append (map as_item B) (map as_item C) (ledger_of (after_life choices now s))
-        ∙ ap (remove (map as_item C)) (sym (leave_erase kind (after_life choices now s) (k1 kind choices now s k) B (idle_from kind choices now (after_life choices now s))))
-        ∙ sym (leave_erase kind (after_idle choices now s) (k2 kind choices now s k) C (trim_from kind choices now (after_idle choices now s)))
+        ap (λ (is : List (Item Key Value)). remove is (ledger_of s)) (map-append as_item lived (idled ++ trimmed) ∙ ap (λ (is : List (Item Key Value)). map as_item lived ++ is) (map-append as_item idled trimmed))
+        ∙ remove_append (map as_item lived) (map as_item idled ++ map as_item trimmed) (ledger_of s)
+        ∙ ap (remove (map as_item idled ++ map as_item trimmed)) (sym (leave_erase kind s k lived (life_from kind choices now s)))
+        ∙ remove_append (map as_item idled) (map as_item trimmed) (ledger_of (after_life choices now s))
+        ∙ ap (remove (map as_item trimmed)) (sym (leave_erase kind (after_life choices now s) (k1 kind choices now s k) idled (idle_from kind choices now (after_life choices now s))))
+        ∙ sym (leave_erase kind (after_idle choices now s) (k2 kind choices now s k) trimmed (trim_from kind choices now (after_idle choices now s)))
 
     pub settled_erase : (ds rest : List Departure) → ds ≡ passes_told choices now s ++ rest → told_by by_pass rest ≡ [] → settled ds (ledger_of s) ≡ ledger_of (passed choices now s)
     unfolding settled ledger_of
     settled_erase ds rest e q =
-        let n : told_by by_pass ds ≡ map ticket_of (A ++ (B ++ C)) =
-        ap (told_by by_pass) e ∙ told_by_append by_pass (passes_told choices now s) rest ∙ (λ i. tickets_told i ++ q i) ∙ append-nil (map ticket_of (A ++ (B ++ C))) in
+        let n : told_by by_pass ds ≡ map ticket_of (lived ++ (idled ++ trimmed)) =
+        ap (told_by by_pass) e ∙ told_by_append by_pass (passes_told choices now s) rest ∙ (λ i. tickets_told i ++ q i) ∙ append-nil (map ticket_of (lived ++ (idled ++ trimmed))) in
         ap (λ (ts : List ℕ). remove (items_with ts (ledger_of s)) (ledger_of s)) n
-        ∙ ap (λ (is : List (Item Key Value)). remove is (ledger_of s)) (looked_again as_item (λ (i : Item Key Value). i.ticket) s.touch (A ++ (B ++ C)) k.tickets all_from)
+        ∙ ap (λ (is : List (Item Key Value)). remove is (ledger_of s)) (looked_again as_item (λ (i : Item Key Value). i.ticket) s.touch (lived ++ (idled ++ trimmed)) k.tickets all_from)
         ∙ removed

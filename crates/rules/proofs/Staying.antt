@@ -146,32 +146,32 @@ module _ {Key Value : Type 0} where
   -- ---- a whole call
 
   module _ (kind : Kind Key Value) (choices : Choices) (sizes : Sizes) (free : ℕ) (s : State Key Value) where
-    abbrev P : ℕ → State Key Value
-    P now = passed choices now s
+    abbrev cleared : ℕ → State Key Value
+    cleared now = passed choices now s
 
-    abbrev D : ℕ → List Departure
-    D now = passes_told choices now s
+    abbrev departed : ℕ → List Departure
+    departed now = passes_told choices now s
 
     pub stays : (c : Call Key Value) → Stay s (step kind choices sizes free s c)
     unfolding step
     stays (Get k now) =
         elim (cases_Bool (leb now latest)) [
-          | inl f ↦ rw f (got_stays kind choices sizes free s (P now) (passed_thins choices now s) (D now) k now (held kind k (P now)) refl)
+          | inl f ↦ rw f (got_stays kind choices sizes free s (cleared now) (passed_thins choices now s) (departed now) k now (held kind k (cleared now)) refl)
           | inr f ↦ rw f (stay_none s s (Refused BeyondRange) [] (unchanged s))
         ]
     stays (Contains k now) =
         elim (cases_Bool (leb now latest)) [
-          | inl f ↦ rw f (asked_stays kind choices sizes free s (P now) (passed_thins choices now s) (D now) now (held kind k (P now)))
+          | inl f ↦ rw f (asked_stays kind choices sizes free s (cleared now) (passed_thins choices now s) (departed now) now (held kind k (cleared now)))
           | inr f ↦ rw f (stay_none s s (Refused BeyondRange) [] (unchanged s))
         ]
     stays (Insert k v now) =
         elim (cases_Bool (leb now latest)) [
-          | inl f ↦ rw f (inserted_stays kind choices sizes free s (P now) (passed_thins choices now s) (D now) k v now (held kind k (P now)) refl)
+          | inl f ↦ rw f (inserted_stays kind choices sizes free s (cleared now) (passed_thins choices now s) (departed now) k v now (held kind k (cleared now)) refl)
           | inr f ↦ rw f (stay_none s s (Refused BeyondRange) [] (unchanged s))
         ]
     stays (Invalidate k now) =
         elim (cases_Bool (leb now latest)) [
-          | inl f ↦ rw f (struck_stays kind choices sizes free s (P now) (passed_thins choices now s) (D now) (held kind k (P now)))
+          | inl f ↦ rw f (struck_stays kind choices sizes free s (cleared now) (passed_thins choices now s) (departed now) (held kind k (cleared now)))
           | inr f ↦ rw f (stay_none s s (Refused BeyondRange) [] (unchanged s))
         ]
     stays InvalidateAll = stay_none s _ Swept _ (record { out = λ e. true; left = without_all s.touch })
