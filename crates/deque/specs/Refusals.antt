@@ -1,7 +1,14 @@
 -- The refusals' numbers.
 use Rattle.std.specs.Prelude.{ℕ, Some, None, Ok, Err, Option, Result}
+use Rattle.refusals.specs.declared.Refusal as all
+use Rattle.refusals.specs.declared.Refusal.TheVariants as told
 use Rattle.deque.specs.declared.refusal.Refusal.{Refusal}
 use Rattle.deque.specs.declared.refusal.Refusal.TheVariants.{NotLinked, NotFree}
+
+-- each among all refusals
+abbrev pub refusal_of : Refusal → all.Refusal
+refusal_of NotLinked = told.NotLinked
+refusal_of NotFree = told.NotFree
 
 -- 8: unlink, move, next, read or replace at a node not lent or not linked; 9: push at a node not lent or already linked
 abbrev pub refusal_number : Refusal → ℕ

@@ -1,9 +1,9 @@
 //! Why a call did nothing.
 ghost use Rattle.std.specs.Prelude.{◌≡◌};
-ghost use Rattle.deque.specs.Refusals.{refusal_number};
+ghost use Rattle.deque.specs.Refusals.{refusal_of, refusal_number};
 
 /// Why a call did nothing.
-#[derive(Clone, Copy)]
+#[derive(Clone, Copy, Debug, PartialEq, Eq)]
 pub enum Refusal {
     /// The call wants a linked node, and this one is not linked or not lent.
     NotLinked,
@@ -11,14 +11,23 @@ pub enum Refusal {
     NotFree,
 }
 
+impl From<Refusal> for refusals::Refusal {
+    ghost from_gives = { λ why told. told ≡ refusal_of why };
+
+    /// The refusal among all that there are.
+    fn from(why: Refusal) -> refusals::Refusal {
+        match why {
+            Refusal::NotLinked => refusals::Refusal::NotLinked,
+            Refusal::NotFree => refusals::Refusal::NotFree,
+        }
+    }
+}
+
 impl Refusal {
     /// The refusal's number.
     pub fn number(self) -> u8
         ensures { result ≡ refusal_number self }
     {
-        match self {
-            Refusal::NotLinked => 8,
-            Refusal::NotFree => 9,
-        }
+        refusals::Refusal::from(self).number()
     }
 }

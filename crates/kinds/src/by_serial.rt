@@ -22,13 +22,13 @@ impl EntryKind for Serials {
 
     const WEIGHED: bool = false;
 
+    ghost WEIGHED = { false };
+
     ghost alike = { nat_eq };
 
     ghost hashed = { λ k. k };
 
     ghost weighs = { λ _ _. 1 };
-
-    ghost weighed = { false };
 
     ghost refl = { Prim.search rules };
 
@@ -43,10 +43,6 @@ impl EntryKind for Serials {
     ghost light = { Prim.search rules };
 
     ghost bounded = { Prim.search rules };
-
-    fn is_weighed() -> bool {
-        Self::WEIGHED
-    }
 
     fn same(a: &u64, b: &u64) -> bool {
         *a == *b

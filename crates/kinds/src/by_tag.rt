@@ -26,13 +26,13 @@ impl EntryKind for Tags {
 
     const WEIGHED: bool = true;
 
+    ghost WEIGHED = { true };
+
     ghost alike = { same_tag };
 
     ghost hashed = { folded_tag };
 
     ghost weighs = { λ k v. tag_weight k v.length };
-
-    ghost weighed = { true };
 
     ghost refl = { Prim.search rules };
 
@@ -47,10 +47,6 @@ impl EntryKind for Tags {
     ghost light = { Prim.search rules };
 
     ghost bounded = { Prim.search rules };
-
-    fn is_weighed() -> bool {
-        Self::WEIGHED
-    }
 
     fn same(a: &u64, b: &u64) -> bool {
         folded_tag(*a) == folded_tag(*b)

@@ -31,6 +31,9 @@ pub trait EntryKind {
     /// Whether entries of this kind are weighed: a fixed yes or no.
     const WEIGHED: bool;
 
+    // The same, for clauses.
+    ghost WEIGHED: { Bool };
+
     // Whether two keys are the same.
     ghost alike: { Self.Key → Self.Key → Bool };
 
@@ -40,14 +43,8 @@ pub trait EntryKind {
     // The weight of a key with a value.
     ghost weighs: { Self.Key → Self.Value → ℕ };
 
-    // The constant, for clauses.
-    ghost weighed: { Bool };
-
-    /// The constant, for generic code: a clause cannot name `WEIGHED` itself.
-    fn is_weighed() -> bool
-        ensures { result ≡ weighed };
-
     /// Whether two keys are the same.
+    // No derive says it: the keys are plain numbers, and a kind may take two of them for one key.
     fn same(a: &Self::Key, b: &Self::Key) -> bool
         ensures { result ≡ alike a.now b.now };
 
@@ -75,7 +72,7 @@ pub trait EntryKind {
     ghost weights: { (k l : Self.Key) (v : Self.Value) → alike k l ≡ true → weighs k v ≡ weighs l v };
 
     // Where entries aren't weighed, each counts as 1.
-    ghost light: { (k : Self.Key) (v : Self.Value) → weighed ≡ false → weighs k v ≡ 1 };
+    ghost light: { (k : Self.Key) (v : Self.Value) → WEIGHED ≡ false → weighs k v ≡ 1 };
 
     // Every weight is a number of 32 bits, which sums of weights rest on.
     ghost bounded: { (k : Self.Key) (v : Self.Value) → weighs k v < 2 ^ 32 };

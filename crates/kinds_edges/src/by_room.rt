@@ -23,13 +23,13 @@ impl EntryKind for Rooms {
 
     const WEIGHED: bool = true;
 
+    ghost WEIGHED = { true };
+
     ghost alike = { λ k l. (k / 16 == l / 16) };
 
     ghost hashed = { λ k. k / 16 };
 
     ghost weighs = { λ _ v. size_weight v };
-
-    ghost weighed = { true };
 
     ghost refl = { Prim.search rules };
 
@@ -44,10 +44,6 @@ impl EntryKind for Rooms {
     ghost light = { Prim.search rules };
 
     ghost bounded = { Prim.search rules };
-
-    fn is_weighed() -> bool {
-        Self::WEIGHED
-    }
 
     fn same(a: &u32, b: &u32) -> bool {
         *a / 16 == *b / 16

@@ -52,7 +52,7 @@ pub fn weight_of_other<K: EntryKind>(known: &K::Key, asked: &K::Key, v: &K::Valu
 pub fn counts_as_one<K: EntryKind>(k: &K::Key, v: &K::Value) -> bool
     ensures { result ≡ true }
 {
-    K::is_weighed() || K::weight(k, v) == 1
+    K::WEIGHED || K::weight(k, v) == 1
 }
 
 /// Two weights add up within 33 bits: by `bounded`.

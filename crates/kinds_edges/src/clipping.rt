@@ -3,12 +3,12 @@ ghost use Rattle.std.specs.Prelude.{◌≡◌, ◌^◌, min};
 
 use times::Instant;
 
+/// The largest number that is an instant: 2^62.
+const MOST: u64 = 4611686018427387904;
+
 /// A number, cut to the largest that is an instant.
 pub fn clipped(nanos: u64) -> u64
     ensures { result ≡ min nanos (2 ^ 62) }
 {
-    match Instant::new(nanos) {
-        Ok(instant) => instant.nanos(),
-        Err(_) => 4611686018427387904,
-    }
+    Instant::try_from(nanos).map_or(MOST, Instant::nanos)
 }

@@ -13,7 +13,7 @@ fn a_serial_is_its_own_hash_and_counts_as_one(rt: HostRuntime) {
         assert_eq!(rt; Serials::same(&serial, &97), serial == 97);
         assert_eq!(rt; Serials::weight(&serial, &reading), 1);
     }
-    assert!(rt; !Serials::is_weighed());
+    assert!(rt; !Serials::WEIGHED);
 }
 
 #[test]

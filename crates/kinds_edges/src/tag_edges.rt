@@ -62,5 +62,5 @@ fn logs_weigh_until_the_stop(rt: HostRuntime) {
     for (tag, length, weight) in WEIGHTS {
         assert_eq!(rt; Tags::weight(&tag, &Log { length, place: 7 }), weight);
     }
-    assert!(rt; Tags::is_weighed());
+    assert!(rt; Tags::WEIGHED);
 }

@@ -19,8 +19,8 @@ const SPANS: [(u64, u64, u64, bool); 8] = [
 #[test]
 fn the_largest_number_is_taken(rt: HostRuntime) -> Result<(), Fail> {
     for nanos in [0, 1, MOST] {
-        assert_eq!(rt; Instant::new(nanos)?.nanos(), nanos);
-        assert_eq!(rt; Duration::new(nanos)?.nanos(), nanos);
+        assert_eq!(rt; Instant::try_from(nanos)?.nanos(), nanos);
+        assert_eq!(rt; Duration::try_from(nanos)?.nanos(), nanos);
     }
     Ok(())
 }
@@ -28,20 +28,20 @@ fn the_largest_number_is_taken(rt: HostRuntime) -> Result<(), Fail> {
 #[test]
 fn one_more_is_refused_by_its_number(rt: HostRuntime) {
     for nanos in [MOST + 1, u64::MAX] {
-        match Instant::new(nanos) {
-            Ok(_) => assert!(rt; false),
-            Err(why) => assert_eq!(rt; why.number(), 6),
-        }
-        assert!(rt; Duration::new(nanos).is_err());
+        assert_eq!(rt;
+            Instant::try_from(nanos).err().map(Refusal::number),
+            Some(6)
+        );
+        assert!(rt; Duration::try_from(nanos).is_err());
     }
 }
 
 #[test]
 fn a_span_is_over_at_its_end(rt: HostRuntime) -> Result<(), Fail> {
     for (nanos, begun, later, over) in SPANS {
-        let span = Duration::new(nanos)?;
-        let from = Instant::new(begun)?;
-        let now = Instant::new(later)?;
+        let span = Duration::try_from(nanos)?;
+        let from = Instant::try_from(begun)?;
+        let now = Instant::try_from(later)?;
         assert_eq!(rt; span.is_over(from, now), over);
         assert_eq!(rt; is_expired(Some(span), from, now), over);
         assert_eq!(rt; is_expired_since(Some(span), begun, now), over);
@@ -51,9 +51,9 @@ fn a_span_is_over_at_its_end(rt: HostRuntime) -> Result<(), Fail> {
 
 #[test]
 fn without_a_span_nothing_expires(rt: HostRuntime) -> Result<(), Fail> {
-    let most = Instant::new(MOST)?;
-    assert!(rt; !is_expired(None, Instant::new(0)?, most));
+    let most = Instant::try_from(MOST)?;
+    assert!(rt; !is_expired(None, Instant::try_from(0)?, most));
     assert!(rt; !is_expired_since(None, 0, most));
-    assert!(rt; !is_expired_since(Some(Duration::new(10)?), u64::MAX, most));
+    assert!(rt; !is_expired_since(Some(Duration::try_from(10)?), u64::MAX, most));
     Ok(())
 }

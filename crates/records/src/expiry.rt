@@ -10,10 +10,7 @@ use times::{Duration, Instant, is_expired_since};
 fn is_over_since(span: Option<Duration>, from: Option<u64>, now: Instant) -> bool
     ensures { result ≡ over_since (span_of span) from now.nanos }
 {
-    match from {
-        Some(nanos) => is_expired_since(span, nanos, now),
-        None => false,
-    }
+    from.is_some_and(|nanos| is_expired_since(span, nanos, now))
 }
 
 /// Whether the idle time of a record's entry is over.

@@ -6,7 +6,7 @@ use Rattle.rules.specs.Fronts.{looked, among, without, In, tally}
 use Rattle.sketch.specs.Sketches.{Sketch}
 use Rattle.rules.specs.declared.choices.Choices.{Choices}
 use Rattle.rules.specs.declared.answer.Answer.TheVariants.{Yes, No, New, Replaced, TurnedAway, Struck, Absent, Refused}
-use Rattle.rules.specs.declared.refusal.Refusal.TheVariants.{NoCell}
+use Rattle.refusals.specs.declared.Refusal.TheVariants.{NoCell}
 use Rattle.rules.specs.declared.departure.Cause.TheVariants.{Outvoted, StruckOut}
 use Rattle.rules.specs.declared.departure.Departure.{Departure}
 use Rattle.rules.specs.Kinds.{Kind, Lawful}

@@ -7,7 +7,7 @@ use Rattle.rules.specs.declared.call.Call.{Call}
 use Rattle.rules.specs.declared.call.Call.TheVariants.{Get, Contains, Insert, Invalidate, InvalidateAll}
 use Rattle.rules.specs.declared.answer.Answer.{Answer}
 use Rattle.rules.specs.declared.answer.Answer.TheVariants.{Refused}
-use Rattle.rules.specs.declared.refusal.Refusal.TheVariants.{BeyondRange}
+use Rattle.refusals.specs.declared.Refusal.TheVariants.{BeyondRange}
 use Rattle.rules.specs.declared.departure.Cause.TheVariants.{Outvoted, StruckOut, SweptOut}
 use Rattle.rules.specs.declared.departure.Departure.{Departure}
 use Rattle.rules.specs.Kinds.{Kind}

@@ -5,7 +5,7 @@ use Rattle.rules.specs.Fronts.{total, freeing, In}
 use Rattle.sketch.specs.Sketches.{frequency}
 use Rattle.rules.specs.declared.choices.Choices.{Choices}
 use Rattle.rules.specs.declared.answer.Answer.TheVariants.{New, TurnedAway, Refused}
-use Rattle.rules.specs.declared.refusal.Refusal.TheVariants.{NoCell}
+use Rattle.refusals.specs.declared.Refusal.TheVariants.{NoCell}
 use Rattle.rules.specs.declared.departure.Cause.TheVariants.{Outvoted}
 use Rattle.rules.specs.Kinds.{Kind}
 use Rattle.rules.specs.Entries.{Sizes, Entry, State}

@@ -7,7 +7,7 @@ use Rattle.rules.specs.declared.call.Call.{Call}
 use Rattle.rules.specs.declared.call.Call.TheVariants.{Get, Contains, Insert, Invalidate, InvalidateAll}
 use Rattle.rules.specs.declared.answer.Answer.{Answer}
 use Rattle.rules.specs.declared.answer.Answer.TheVariants.{Hit, Miss, Yes, No, New, Replaced, TurnedAway, Struck, Absent, Swept, Refused}
-use Rattle.rules.specs.declared.refusal.Refusal.TheVariants.{BeyondRange, NoCell}
+use Rattle.refusals.specs.declared.Refusal.TheVariants.{BeyondRange, NoCell}
 use Rattle.rules.specs.declared.departure.Cause.TheVariants.{Outvoted, StruckOut, SweptOut}
 use Rattle.rules.specs.declared.departure.Departure.{Departure}
 use Rattle.rules.specs.Kinds.{Kind}

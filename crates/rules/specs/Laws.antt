@@ -6,7 +6,7 @@ use Rattle.rules.specs.declared.choices.Choices.{Choices}
 use Rattle.rules.specs.declared.call.Call.{Call}
 use Rattle.rules.specs.declared.call.Call.TheVariants.{Get, Contains, Insert, Invalidate, InvalidateAll}
 use Rattle.rules.specs.declared.answer.Answer.TheVariants.{New, Replaced, Refused}
-use Rattle.rules.specs.declared.refusal.Refusal.TheVariants.{BeyondRange}
+use Rattle.refusals.specs.declared.Refusal.TheVariants.{BeyondRange}
 use Rattle.rules.specs.Kinds.{Kind}
 use Rattle.rules.specs.Entries.{Sizes, Entry, State}
 use Rattle.rules.specs.Limits.{plus, fits, within}

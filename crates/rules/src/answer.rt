@@ -1,5 +1,5 @@
 //! What a cache answers.
-use crate::refusal::Refusal;
+use refusals::Refusal;
 
 /// The answer of a call.
 #[derive(Clone, Copy)]

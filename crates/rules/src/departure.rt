@@ -3,20 +3,20 @@ ghost use Rattle.std.specs.Prelude.{◌≡◌};
 ghost use Rattle.rules.specs.Numbers.{cause_number};
 
 /// Why an entry left.
-#[derive(Clone, Copy)]
+#[derive(Clone, Copy, Debug, PartialEq, Eq)]
 pub enum Cause {
     /// Its life was over.
-    LivedOut,
+    LivedOut = 1,
     /// Its idle time was over.
-    IdledOut,
+    IdledOut = 2,
     /// The recorded weight was above the capacity.
-    Trimmed,
+    Trimmed = 3,
     /// A newcomer was more popular.
-    Outvoted,
+    Outvoted = 4,
     /// It was struck by its key.
-    StruckOut,
+    StruckOut = 5,
     /// Everything was swept out.
-    SweptOut,
+    SweptOut = 6,
 }
 
 impl Cause {
@@ -24,14 +24,7 @@ impl Cause {
     pub fn number(self) -> u8
         ensures { result ≡ cause_number self }
     {
-        match self {
-            Cause::LivedOut => 1,
-            Cause::IdledOut => 2,
-            Cause::Trimmed => 3,
-            Cause::Outvoted => 4,
-            Cause::StruckOut => 5,
-            Cause::SweptOut => 6,
-        }
+        self as u8
     }
 }
 

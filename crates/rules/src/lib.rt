@@ -17,7 +17,6 @@ mod call;
 mod choices;
 mod departure;
 mod laws;
-mod refusal;
 mod theorems;
 
 pub use answer::Answer;
@@ -28,5 +27,5 @@ pub use laws::{
     expires_exactly, fitting_is_exact, late_is_refused, looking_no_further, opens_once,
     others_stay, passes_clear_fronts, sums_stop,
 };
-pub use refusal::Refusal;
+pub use refusals::Refusal;
 pub use theorems::{account_of, goes_on_of, samples_stand, served_of, sums_of, values_of};

@@ -1,36 +1,9 @@
 -- Shows what the runs of bytes at the front of a line have to do with its words.
-use Rattle.std.proofs.Common.{◌≡◌, ℕ, suc, ◌+◌, ◌-◌, ◌<◌, ◌≤◌, Bool, true, false, not, List, [], ◌∷◌, length, get_or, take, drop, sym, refl, ap, ◌∙◌, ⊎_elim, add-one, arith, length-drop, drop-cons}
-use mathlib.Core.Bool.{beq}
-use Rattle.std.proofs.lemmas.List.{drop_all, take_all, length-take-le}
+use Rattle.std.proofs.Common.{◌≡◌, ℕ, suc, ◌-◌, ◌<◌, ◌≤◌, true, false, List, [], ◌∷◌, length, take, drop, sym, refl, ap, ◌∙◌, ⊎_elim, arith, length-drop}
+use Rattle.std.proofs.lemmas.List.{take_all, length-take-le}
 use Rattle.std.proofs.lemmas.Bool.{cases_Bool}
 use Rattle.script.specs.Lines.{blank, before, parted, words}
-use Rattle.script.specs.Runs.{as_asked, leading}
-
--- one byte more
-pub leading_more : (k : Bool) (line : List ℕ) (i : ℕ) → i < length line → as_asked k (blank (get_or line i 0)) ≡ true
-    → leading k (drop i line) ≡ suc (leading k (drop (i + 1) line))
-leading_more k line i h e = rw (drop-cons line i 0, e) (ap (λ (n : ℕ). suc (leading k (drop n line))) (sym (add-one i)))
-
--- the run ends
-pub leading_ends : (k : Bool) (line : List ℕ) (i : ℕ) → i < length line → as_asked k (blank (get_or line i 0)) ≡ false → leading k (drop i line) ≡ 0
-leading_ends k line i h e = rw (drop-cons line i 0, e)
-
--- the line ends
-pub leading_all : (k : Bool) (line : List ℕ) (i : ℕ) → length line ≤ i → leading k (drop i line) ≡ 0
-leading_all k line i h = rw (drop_all i line h)
-
--- the code's test `b != k`
-pub differs : (b k : Bool) → not (beq b k) ≡ true → as_asked k b ≡ false
-differs true true h = sym h
-differs true false h = refl
-differs false true h = refl
-differs false false h = sym h
-
-pub agrees : (b k : Bool) → not (beq b k) ≡ false → as_asked k b ≡ true
-agrees true true h = refl
-agrees true false h = sym h
-agrees false true h = sym h
-agrees false false h = refl
+use Rattle.script.specs.Runs.{leading}
 
 -- the code's `line[n..]`
 pub from_on : (n : ℕ) (line : List ℕ) → take (length line - n) (drop n line) ≡ drop n line

@@ -1,9 +1,9 @@
 -- The words behind a command, and what a command asks for with them.
-use Rattle.std.specs.Prelude.{ℕ, Bool, true, false, cond, List, [], ◌∷◌, length, take, drop, Some, None, Option, nat_lt}
+use Rattle.std.specs.Prelude.{ℕ, Bool, true, false, cond, List, [], ◌∷◌, length, take, drop, Some, None, Option, Ok, Err, Result, nat_lt}
 use Rattle.std.specs.Str.{bytes_eq}
 use Rattle.script.specs.declared.command.Command.{Command}
-use Rattle.script.specs.declared.command.Reading.{Reading}
-use Rattle.script.specs.declared.command.Reading.TheVariants.{Unknown, Wrong, Asks}
+use Rattle.script.specs.declared.command.Fault.{Fault}
+use Rattle.script.specs.declared.command.Fault.TheVariants.{WrongWords}
 use Rattle.script.specs.Numerals.{numeral}
 
 -- ---- the words behind a command
@@ -48,23 +48,32 @@ none_left (w ∷ ws) = false
 
 -- ---- what is asked for
 
+-- what a reader of one part's commands makes of a line: a command, or none of this part, or the wrong words for it
+abbrev pub Asked : Type 0
+Asked = Result (Option Command) Fault
+
+-- what was read off the words behind a command
+abbrev pub fitting : Option Command → Asked
+fitting None = Err WrongWords
+fitting (Some c) = Ok (Some c)
+
 -- a command that takes one number
-abbrev pub asking : Option ℕ → (ℕ → Command) → Reading
-asking None f = Wrong
-asking (Some n) f = Asks (f n)
+abbrev pub asking : Option ℕ → (ℕ → Command) → Asked
+asking None f = Err WrongWords
+asking (Some n) f = Ok (Some (f n))
 
 -- a command that takes two
-abbrev pub asking_pair : Option (ℕ × ℕ) → (ℕ → ℕ → Command) → Reading
-asking_pair None f = Wrong
-asking_pair (Some p) f = Asks (f p.0 p.1)
+abbrev pub asking_pair : Option (ℕ × ℕ) → (ℕ → ℕ → Command) → Asked
+asking_pair None f = Err WrongWords
+asking_pair (Some p) f = Ok (Some (f p.0 p.1))
 
 -- a command that takes no word
-abbrev pub asking_alone : List (List ℕ) → Command → Reading
-asking_alone [] c = Asks c
-asking_alone (w ∷ ws) c = Wrong
+abbrev pub asking_alone : List (List ℕ) → Command → Asked
+asking_alone [] c = Ok (Some c)
+asking_alone (w ∷ ws) c = Err WrongWords
 
 -- what one reader makes of a line, or another where the first knows no such command
-abbrev pub or_else : Reading → Reading → Reading
-or_else Unknown r = r
-or_else Wrong r = Wrong
-or_else (Asks c) r = Asks c
+abbrev pub or_else : Asked → Asked → Asked
+or_else (Ok None) r = r
+or_else (Ok (Some c)) r = Ok (Some c)
+or_else (Err e) r = Err e

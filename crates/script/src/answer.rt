@@ -3,6 +3,8 @@ ghost use Rattle.std.specs.Prelude.{Some};
 ghost use Rattle.script.specs.Texts.{text, reason, item_text};
 
 use crate::command::Fault;
+use refusals::Refusal;
+use std::error::Error;
 use std::fmt;
 
 /// What a line is answered.
@@ -12,8 +14,8 @@ pub enum Answer {
     Error,
     /// What was asked for is made.
     Made,
-    /// The call was refused, with this number.
-    Refused(u8),
+    /// The call was refused.
+    Refused(Refusal),
     /// The sketch has so many words, and a sample of so many.
     Opened(usize, u64),
     /// The sketch has no words.
@@ -55,7 +57,7 @@ impl fmt::Display for Answer {
         match *self {
             Answer::Error => f.write_str("error"),
             Answer::Made => f.write_str("made"),
-            Answer::Refused(number) => write!(f, "refused {number}"),
+            Answer::Refused(refusal) => write!(f, "refused {}", refusal.number()),
             Answer::Opened(words, sample) => write!(f, "opened {words} {sample}"),
             Answer::Closed => f.write_str("closed"),
             Answer::Counted(size) => write!(f, "counted {size}"),
@@ -90,6 +92,8 @@ impl fmt::Display for Fault {
     }
 }
 
+impl Error for Fault {}
+
 /// One of the linked nodes in a list, with its element.
 #[derive(Clone, Copy)]
 pub struct Item {
@@ -101,8 +105,6 @@ impl fmt::Display for Item {
     ghost output = { λ i. Some (item_text i) };
 
     fn fmt<W: fmt::Write>(&self, f: &mut fmt::Formatter<W>) -> fmt::Result {
-        let node = self.node;
-        let element = self.element;
-        write!(f, " {node}:{element}")
+        write!(f, " {}:{}", self.node, self.element)
     }
 }

@@ -1,4 +1,6 @@
 //! What a line asks for.
+ghost use Rattle.std.specs.Prelude.{◌≡◌};
+ghost use Rattle.script.specs.Readings.{fitting};
 
 /// What is asked of a sketch.
 #[derive(Clone, Copy)]
@@ -46,7 +48,7 @@ pub enum Command {
 }
 
 /// Why a line is answered `error`.
-#[derive(Clone, Copy)]
+#[derive(Clone, Copy, Debug, PartialEq, Eq)]
 pub enum Fault {
     /// Its first word is no command.
     UnknownCommand,
@@ -60,24 +62,9 @@ pub enum Fault {
     TooLarge,
 }
 
-/// A line of a script.
-#[derive(Clone, Copy)]
-pub enum Line {
-    /// It has no word, or is a comment.
-    Comment,
-    /// It asks for something.
-    Ask(Command),
-    /// It is not well formed.
-    Wrong(Fault),
-}
-
-/// What a reader of one part's commands makes of a line.
-#[derive(Clone, Copy)]
-pub enum Reading {
-    /// The first word names no command of this part.
-    Unknown,
-    /// The words behind the command are not those that it takes.
-    Wrong,
-    /// It asks for this.
-    Asks(Command),
+/// What was read off the words behind a command, which are the wrong ones where that is nothing.
+pub(crate) fn fitting(read: Option<Command>) -> Result<Option<Command>, Fault>
+    ensures { result ≡ fitting read }
+{
+    read.map(Some).ok_or(Fault::WrongWords)
 }

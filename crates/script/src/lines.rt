@@ -3,25 +3,19 @@ ghost use Rattle.std.specs.Prelude.{◌≡◌};
 ghost use Rattle.script.specs.Lines.{words as words_of};
 ghost use Rattle.script.specs.LineReadings.{line_of, named, comment_word};
 
-use crate::command::{Fault, Line, Reading};
+use crate::command::{Command, Fault};
 use crate::queue_lines::read_queue;
 use crate::sketch_lines::read_sketch;
-use crate::words::Words;
+use crate::words::{Request, Words};
 
-/// What a line asks for.
-pub fn read(line: &[u8]) -> Line
+/// What a line asks for; nothing where it has no word, or is a comment.
+pub fn read(line: &[u8]) -> Result<Option<Command>, Fault>
     ensures { result ≡ line_of (words_of line.now) }
 {
     let mut words = Words::of(line);
     match words.next() {
-        None => Line::Comment,
-        Some(first) => {
-            if is_comment(first) {
-                Line::Comment
-            } else {
-                read_named(first, words)
-            }
-        }
+        Some(name) if !is_comment(name) => read_named(Request { name, given: words }).map(Some),
+        _ => Ok(None),
     }
 }
 
@@ -29,24 +23,15 @@ pub fn read(line: &[u8]) -> Line
 fn is_comment(word: &[u8]) -> bool
     ensures { result ≡ comment_word word.now }
 {
-    match word {
-        [first, ..] => *first == b'#',
-        [] => false,
-    }
+    word.first() == Some(&b'#')
 }
 
-/// What a first word asks for, with the words behind it.
-fn read_named(name: &[u8], words: Words) -> Line
-    ensures { result ≡ named name.now (words_of words.entry.rest.now) }
+/// What a command asks for, with the words behind it.
+fn read_named(request: Request) -> Result<Command, Fault>
+    ensures { result ≡ named request.entry.name.now (words_of request.entry.given.rest.now) }
 {
-    match read_sketch(name, words) {
-        Reading::Asks(command) => return Line::Ask(command),
-        Reading::Wrong => return Line::Wrong(Fault::WrongWords),
-        Reading::Unknown => {}
+    if let Some(command) = read_sketch(request)? {
+        return Ok(command);
     }
-    match read_queue(name, words) {
-        Reading::Asks(command) => Line::Ask(command),
-        Reading::Wrong => Line::Wrong(Fault::WrongWords),
-        Reading::Unknown => Line::Wrong(Fault::UnknownCommand),
-    }
+    read_queue(request)?.ok_or(Fault::UnknownCommand)
 }

@@ -6,15 +6,12 @@ ghost use Rattle.script.specs.Numerals.{with_digit, numeral};
 pub fn number(word: &[u8]) -> Option<u64>
     ensures { result ≡ numeral word.now }
 {
-    if word.len() == 0 {
+    if word.is_empty() {
         return None;
     }
-    let mut n: u64 = 0;
+    let mut n = 0;
     for b in word {
-        match with_digit(n, *b) {
-            Some(next) => n = next,
-            None => return None,
-        }
+        n = with_digit(n, *b)?;
     }
     Some(n)
 }
@@ -23,12 +20,8 @@ pub fn number(word: &[u8]) -> Option<u64>
 fn with_digit(n: u64, b: u8) -> Option<u64>
     ensures { result ≡ with_digit n b }
 {
-    if b < 48 || b > 57 {
+    if !b.is_ascii_digit() {
         return None;
     }
-    let d = (b - 48) as u64;
-    if n > (u64::MAX - d) / 10 {
-        return None;
-    }
-    Some(10 * n + d)
+    n.checked_mul(10)?.checked_add((b - b'0') as u64)
 }

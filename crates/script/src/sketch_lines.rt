@@ -3,37 +3,31 @@ ghost use Rattle.std.specs.Prelude.{◌≡◌};
 ghost use Rattle.script.specs.Lines.{words as words_of};
 ghost use Rattle.script.specs.SketchLines.{sketch_reading};
 
-use crate::command::{Command, Reading, SketchCommand};
-use crate::words::{Words, is_word};
+use crate::command::{Command, Fault, SketchCommand, fitting};
+use crate::words::Request;
 
-/// What a first word asks of a sketch, with the words behind it.
-pub fn read_sketch(name: &[u8], words: Words) -> Reading
-    ensures { result ≡ sketch_reading name.now (words_of words.entry.rest.now) }
+/// What a line asks of a sketch; nothing where its command is none of a sketch.
+pub fn read_sketch(request: Request) -> Result<Option<Command>, Fault>
+    ensures { result ≡ sketch_reading request.entry.name.now (words_of request.entry.given.rest.now) }
 {
-    let mut words = words;
-    if is_word(name, b"sketch") {
-        return match words.only_field(b"words=") {
-            Some(n) => Reading::Asks(Command::MakeSketch(n)),
-            None => Reading::Wrong,
-        };
+    let given = request.given;
+    match request.name {
+        b"sketch" => fitting(given.only_field(b"words=").map(Command::MakeSketch)),
+        b"open" => fitting(
+            given
+                .only_number()
+                .map(|n| Command::Sketch(SketchCommand::Open(n))),
+        ),
+        b"count" => fitting(
+            given
+                .only_number()
+                .map(|n| Command::Sketch(SketchCommand::Count(n))),
+        ),
+        b"estimate" => fitting(
+            given
+                .only_number()
+                .map(|n| Command::Sketch(SketchCommand::Estimate(n))),
+        ),
+        _ => Ok(None),
     }
-    if is_word(name, b"open") {
-        return match words.only_number() {
-            Some(n) => Reading::Asks(Command::Sketch(SketchCommand::Open(n))),
-            None => Reading::Wrong,
-        };
-    }
-    if is_word(name, b"count") {
-        return match words.only_number() {
-            Some(n) => Reading::Asks(Command::Sketch(SketchCommand::Count(n))),
-            None => Reading::Wrong,
-        };
-    }
-    if is_word(name, b"estimate") {
-        return match words.only_number() {
-            Some(n) => Reading::Asks(Command::Sketch(SketchCommand::Estimate(n))),
-            None => Reading::Wrong,
-        };
-    }
-    Reading::Unknown
 }

@@ -5,9 +5,9 @@ use Rattle.script.specs.declared.answer.Answer.{Answer}
 use Rattle.script.specs.declared.answer.Answer.TheVariants as answer
 use Rattle.script.specs.declared.command.QueueCommand.{QueueCommand}
 use Rattle.script.specs.declared.command.QueueCommand.TheVariants.{Push, Pop, Front, Back, Unlink, Next, Member}
-use Rattle.deque.specs.declared.refusal.Refusal.{Refusal}
+use Rattle.refusals.specs.declared.Refusal.{Refusal}
 use Rattle.deque.specs.declared.refusal.Refusal.TheVariants.{NotLinked, NotFree}
-use Rattle.deque.specs.Refusals.{refusal_number}
+use Rattle.deque.specs.Refusals.{refusal_of}
 use Rattle.links.specs.Places.{has, after}
 use Rattle.deque.specs.Meaning.{places, pushed, dropped, front, rest, moved, free}
 
@@ -33,18 +33,18 @@ abbrev pub next_answer : Option ℕ → Answer
 next_answer None = answer.Last
 next_answer (Some j) = answer.Next j
 
--- the answer of a call that was done, or its refusal
-abbrev pub by_result : Result (Unit {0}) Refusal → Answer → Answer
-by_result (Ok u) a = a
-by_result (Err e) a = answer.Refused (refusal_number e)
+-- the answer, or the refusal as an answer
+abbrev pub told : Result Answer Refusal → Answer
+told (Ok a) = a
+told (Err e) = answer.Refused e
 
 -- an answer where node i is linked, and the refusal where it is not
 abbrev pub if_linked : List (ℕ × ℕ) → ℕ → Answer → Answer
-if_linked ps i a = cond (has (places ps) i) a (answer.Refused (refusal_number NotLinked))
+if_linked ps i a = cond (has (places ps) i) a (answer.Refused (refusal_of NotLinked))
 
 -- the answer to a command
 abbrev pub queue_answer : ℕ → List (ℕ × ℕ) → QueueCommand → Answer
-queue_answer n ps (Push i x) = cond (free n ps i) answer.Pushed (answer.Refused (refusal_number NotFree))
+queue_answer n ps (Push i x) = cond (free n ps i) answer.Pushed (answer.Refused (refusal_of NotFree))
 queue_answer n ps Pop = popped_answer (front ps)
 queue_answer n ps Front = front_answer (front ps)
 queue_answer n ps (Back i) = if_linked ps i answer.Moved

@@ -1,10 +1,10 @@
 //! What a queue is asked by a script.
 ghost use Rattle.std.specs.Prelude.{◌≡◌};
 ghost use Rattle.deque.specs.Meaning.{items, lent};
-ghost use Rattle.service.specs.QueueService.{queue_answer, queue_after, by_result};
+ghost use Rattle.service.specs.QueueService.{queue_answer, queue_after, told};
 
 use deque::Deque;
-use deque::refusal::Refusal;
+use refusals::Refusal;
 use script::answer::Answer;
 use script::command::QueueCommand;
 
@@ -13,39 +13,38 @@ pub fn ask_queue(queue: &mut Deque<u64>, command: QueueCommand) -> Answer
     ensures answer { result ≡ queue_answer (lent queue.old) (items queue.old) command }
     ensures order { items queue.new ≡ queue_after (lent queue.old) (items queue.old) command }
 {
-    match command {
-        QueueCommand::Push(i, x) => done(queue.push_back(i as usize, x), Answer::Pushed),
-        QueueCommand::Pop => match queue.pop_front() {
-            Some((popped, x)) => Answer::Popped(popped, x),
-            None => Answer::Empty,
-        },
-        QueueCommand::Front => match queue.peek_front() {
-            Some((node, x)) => Answer::Front(node, x),
-            None => Answer::Empty,
-        },
-        QueueCommand::Back(i) => done(queue.move_to_back(i as usize), Answer::Moved),
-        QueueCommand::Unlink(i) => done(queue.unlink(i as usize), Answer::Unlinked),
-        QueueCommand::Next(i) => match queue.next(i as usize) {
-            Ok(Some(behind)) => Answer::Next(behind),
-            Ok(None) => Answer::Last,
-            Err(refusal) => Answer::Refused(refusal.number()),
-        },
-        QueueCommand::Member(i) => {
-            if queue.contains(i as usize) {
-                Answer::Yes
-            } else {
-                Answer::No
-            }
-        }
-    }
+    asked(queue, command).unwrap_or_else(Answer::Refused)
 }
 
-/// The answer of a call that was done, or its refusal.
-fn done(res: Result<(), Refusal>, answer: Answer) -> Answer
-    ensures { result ≡ by_result res answer }
+/// What a queue answers, unless it refuses.
+fn asked(queue: &mut Deque<u64>, command: QueueCommand) -> Result<Answer, Refusal>
+    ensures answer { told result ≡ queue_answer (lent queue.old) (items queue.old) command }
+    ensures order { items queue.new ≡ queue_after (lent queue.old) (items queue.old) command }
 {
-    match res {
-        Ok(()) => answer,
-        Err(refusal) => Answer::Refused(refusal.number()),
-    }
+    Ok(match command {
+        QueueCommand::Push(i, x) => {
+            queue.push_back(i as usize, x)?;
+            Answer::Pushed
+        }
+        QueueCommand::Pop => queue
+            .pop_front()
+            .map_or(Answer::Empty, |(node, x)| Answer::Popped(node, x)),
+        QueueCommand::Front => queue
+            .peek_front()
+            .map_or(Answer::Empty, |(node, x)| Answer::Front(node, x)),
+        QueueCommand::Back(i) => {
+            queue.move_to_back(i as usize)?;
+            Answer::Moved
+        }
+        QueueCommand::Unlink(i) => {
+            queue.unlink(i as usize)?;
+            Answer::Unlinked
+        }
+        QueueCommand::Next(i) => queue.next(i as usize)?.map_or(Answer::Last, Answer::Next),
+        QueueCommand::Member(i) => if queue.contains(i as usize) {
+            Answer::Yes
+        } else {
+            Answer::No
+        },
+    })
 }

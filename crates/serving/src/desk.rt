@@ -1,6 +1,6 @@
 //! Where lines come from, and where answers and complaints go.
 use script::answer::{Answer, Item};
-use script::command::{Command, Fault, Line};
+use script::command::{Command, Fault};
 use script::lines;
 use std::alloc::Global;
 use std::io;
@@ -37,9 +37,9 @@ impl<R: BufRead, W: Write, E: Write> Desk<R, W, E> {
             }
             self.number = self.number.saturating_add(1);
             match lines::read(self.line.as_slice()) {
-                Line::Comment => {}
-                Line::Wrong(why) => self.complain(why)?,
-                Line::Ask(command) => return Ok(Some(command)),
+                Ok(None) => {}
+                Ok(command) => return Ok(command),
+                Err(why) => self.complain(why)?,
             }
         }
         Ok(None)
@@ -52,8 +52,7 @@ impl<R: BufRead, W: Write, E: Write> Desk<R, W, E> {
 
     /// Answers `error`, and notes the line and the reason.
     pub fn complain(&mut self, why: Fault) -> io::Result<()> {
-        let line = self.number;
-        writeln!(self.notes, "line {line}: {why}")?;
+        writeln!(self.notes, "line {}: {why}", self.number)?;
         self.say(Answer::Error)
     }
 

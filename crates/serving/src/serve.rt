@@ -2,6 +2,7 @@
 use crate::desk::Desk;
 use deque::Deque;
 use deque::node::Node;
+use refusals::Refusal;
 use script::answer::{Answer, Item};
 use script::command::{Command, Fault};
 use service::{ask_queue, ask_sketch};
@@ -9,14 +10,9 @@ use sketch::FrequencySketch;
 use std::io;
 use std::io::{BufRead, Write};
 
-/// The number of the refusal of a sketch whose words are no power of two from 128 to 8,192.
-const WRONG_WORDS: u8 = 4;
-
-/// What is at hand until the next making.
+/// What is made, and at hand until the next making.
 #[derive(Clone, Copy)]
 enum Making {
-    /// Nothing was made yet.
-    Nothing,
     /// A sketch over so many words.
     Sketch(usize),
     /// A queue over so many nodes.
@@ -25,62 +21,131 @@ enum Making {
 
 /// What a line asks of the part at hand.
 enum Request {
-    /// The script is at its end.
-    End,
     /// Something is made, and what was at hand is dropped.
     Made(Making),
     /// A command, of this part or another.
     Asked(Command),
 }
 
-/// Answers every line of a script, over lent words and nodes.
-pub fn run<R: BufRead, W: Write, E: Write>(
-    desk: &mut Desk<R, W, E>,
-    words: &mut [u64],
-    nodes: &mut [Node<u64>],
-) -> io::Result<()> {
-    let mut at_hand = Making::Nothing;
-    for _ in 0..u64::MAX {
-        let made = match at_hand {
-            Making::Nothing => with_nothing(desk, nodes.len())?,
-            Making::Sketch(count) => {
-                let lent = words.len().min(count);
-                with_sketch(desk, &mut words[0..lent], nodes.len())?
-            }
-            Making::Queue(count) => {
-                let most = nodes.len();
-                let lent = most.min(count);
-                with_queue(desk, &mut nodes[0..lent], most)?
-            }
-        };
-        match made {
-            Some(next) => at_hand = next,
-            None => break,
-        }
-    }
-    desk.finish()
+/// What is at hand, and answers its commands.
+trait Part {
+    /// Answers a command; complains of one of a part that is not at hand.
+    fn answer<R: BufRead, W: Write, E: Write>(
+        &mut self,
+        desk: &mut Desk<R, W, E>,
+        command: Command,
+    ) -> io::Result<()>;
 }
 
-/// The next request. Makings are answered here; a queue has `most` nodes at most.
+/// Nothing is at hand.
+#[derive(Drop)]
+struct Nothing;
+
+impl Part for Nothing {
+    fn answer<R: BufRead, W: Write, E: Write>(
+        &mut self,
+        desk: &mut Desk<R, W, E>,
+        command: Command,
+    ) -> io::Result<()> {
+        complain_of(desk, command)
+    }
+}
+
+impl Part for FrequencySketch<'_> {
+    fn answer<R: BufRead, W: Write, E: Write>(
+        &mut self,
+        desk: &mut Desk<R, W, E>,
+        command: Command,
+    ) -> io::Result<()> {
+        match command {
+            Command::Sketch(asked) => desk.say(ask_sketch(self, asked)),
+            _ => complain_of(desk, command),
+        }
+    }
+}
+
+impl Part for Deque<'_, u64> {
+    fn answer<R: BufRead, W: Write, E: Write>(
+        &mut self,
+        desk: &mut Desk<R, W, E>,
+        command: Command,
+    ) -> io::Result<()> {
+        match command {
+            Command::Queue(asked) => desk.say(ask_queue(self, asked)),
+            Command::ListQueue => list(desk, self),
+            _ => complain_of(desk, command),
+        }
+    }
+}
+
+/// Complains of a command of a part that is not at hand.
+fn complain_of<R: BufRead, W: Write, E: Write>(
+    desk: &mut Desk<R, W, E>,
+    command: Command,
+) -> io::Result<()> {
+    desk.complain(match command {
+        Command::Sketch(_) | Command::MakeSketch(_) => Fault::NoSketch,
+        Command::Queue(_) | Command::MakeQueue(_) | Command::ListQueue => Fault::NoQueue,
+    })
+}
+
+/// Writes the linked nodes with their elements, front first.
+fn list<R: BufRead, W: Write, E: Write>(
+    desk: &mut Desk<R, W, E>,
+    queue: &Deque<u64>,
+) -> io::Result<()> {
+    desk.begin_list()?;
+    let mut at = queue.peek_front().map(|(node, _)| node);
+    for _ in 0..queue.len() {
+        let Some(node) = at else {
+            break;
+        };
+        if let Ok(element) = queue.get(node) {
+            desk.list_item(Item { node, element })?;
+        }
+        at = queue.next(node).ok().flatten();
+    }
+    desk.end_list()
+}
+
+/// Answers lines with a part at hand, and says what is made then, if anything is; a queue is lent `most` nodes at most.
+fn serve<R: BufRead, W: Write, E: Write, P: Part>(
+    desk: &mut Desk<R, W, E>,
+    most: usize,
+    part: &mut P,
+) -> io::Result<Option<Making>> {
+    for _ in 0..u64::MAX {
+        match next_request(desk, most)? {
+            None => break,
+            Some(Request::Made(making)) => return Ok(Some(making)),
+            Some(Request::Asked(command)) => part.answer(desk, command)?,
+        }
+    }
+    Ok(None)
+}
+
+/// The next request, unless the script is at its end. Makings are answered here; a queue is lent `most` nodes at most.
 fn next_request<R: BufRead, W: Write, E: Write>(
     desk: &mut Desk<R, W, E>,
     most: usize,
-) -> io::Result<Request> {
+) -> io::Result<Option<Request>> {
     for _ in 0..u64::MAX {
         match desk.next()? {
-            None => return Ok(Request::End),
-            Some(Command::MakeSketch(count)) => return Ok(Request::Made(make_sketch(desk, count)?)),
+            None => break,
+            Some(Command::MakeSketch(count)) => return Ok(Some(Request::Made(make_sketch(
+                desk, count,
+            )?))),
             Some(Command::MakeQueue(count)) => {
                 if count <= most as u64 {
                     desk.say(Answer::Made)?;
-                    return Ok(Request::Made(Making::Queue(count as usize)));
+                    return Ok(Some(Request::Made(Making::Queue(count as usize))));
                 }
                 desk.complain(Fault::TooLarge)?;
             }
-            Some(command) => return Ok(Request::Asked(command)),
+            Some(command) => return Ok(Some(Request::Asked(command))),
         }
     }
-    Ok(Request::End)
+    Ok(None)
 }
 
 /// Answers the making of a sketch: one with no word where the number of words is refused.
@@ -93,97 +158,31 @@ fn make_sketch<R: BufRead, W: Write, E: Write>(
         desk.say(Answer::Made)?;
         Ok(Making::Sketch(count))
     } else {
-        desk.say(Answer::Refused(WRONG_WORDS))?;
+        desk.say(Answer::Refused(Refusal::SketchWords))?;
         Ok(Making::Sketch(0))
     }
 }
 
-/// Complains of a command of a part that is not at hand.
-fn complain_of<R: BufRead, W: Write, E: Write>(
-    desk: &mut Desk<R, W, E>,
-    command: Command,
-) -> io::Result<()> {
-    match command {
-        Command::Sketch(_) | Command::MakeSketch(_) => desk.complain(Fault::NoSketch),
-        Command::Queue(_) | Command::MakeQueue(_) | Command::ListQueue => desk.complain(
-            Fault::NoQueue,
-        ),
-    }
-}
-
-/// Answers lines while nothing is at hand, and says what is made then, if anything is.
-fn with_nothing<R: BufRead, W: Write, E: Write>(
-    desk: &mut Desk<R, W, E>,
-    most: usize,
-) -> io::Result<Option<Making>> {
-    for _ in 0..u64::MAX {
-        match next_request(desk, most)? {
-            Request::End => return Ok(None),
-            Request::Made(making) => return Ok(Some(making)),
-            Request::Asked(command) => complain_of(desk, command)?,
-        }
-    }
-    Ok(None)
-}
-
-/// Answers lines with a sketch at hand, and says what is made then, if anything is.
-fn with_sketch<R: BufRead, W: Write, E: Write>(
+/// Answers every line of a script, over lent words and nodes.
+pub fn run<R: BufRead, W: Write, E: Write>(
     desk: &mut Desk<R, W, E>,
     words: &mut [u64],
-    most: usize,
-) -> io::Result<Option<Making>> {
-    let mut sketch = FrequencySketch::new(words);
-    for _ in 0..u64::MAX {
-        match next_request(desk, most)? {
-            Request::End => return Ok(None),
-            Request::Made(making) => return Ok(Some(making)),
-            Request::Asked(Command::Sketch(command)) => desk.say(ask_sketch(&mut sketch, command))?,
-            Request::Asked(command) => complain_of(desk, command)?,
-        }
-    }
-    Ok(None)
-}
-
-/// Answers lines with a queue at hand, and says what is made then, if anything is.
-fn with_queue<R: BufRead, W: Write, E: Write>(
-    desk: &mut Desk<R, W, E>,
     nodes: &mut [Node<u64>],
-    most: usize,
-) -> io::Result<Option<Making>> {
-    let mut queue = Deque::new(nodes);
-    for _ in 0..u64::MAX {
-        match next_request(desk, most)? {
-            Request::End => return Ok(None),
-            Request::Made(making) => return Ok(Some(making)),
-            Request::Asked(Command::Queue(command)) => desk.say(ask_queue(&mut queue, command))?,
-            Request::Asked(Command::ListQueue) => list(desk, &queue)?,
-            Request::Asked(command) => complain_of(desk, command)?,
-        }
-    }
-    Ok(None)
-}
-
-/// Writes the linked nodes with their elements, front first.
-fn list<R: BufRead, W: Write, E: Write>(
-    desk: &mut Desk<R, W, E>,
-    queue: &Deque<u64>,
 ) -> io::Result<()> {
-    desk.begin_list()?;
-    let mut at = match queue.peek_front() {
-        Some((node, _)) => Some(node),
-        None => None,
-    };
-    for _ in 0..queue.len() {
-        let Some(node) = at else {
-            break;
-        };
-        if let Ok(element) = queue.get(node) {
-            desk.list_item(Item { node, element })?;
-        }
-        at = match queue.next(node) {
-            Ok(behind) => behind,
-            Err(_) => None,
+    let most = nodes.len();
+    let mut made = serve(desk, most, &mut Nothing)?;
+    for _ in 0..u64::MAX {
+        made = match made {
+            None => break,
+            Some(Making::Sketch(count)) => {
+                let lent = words.len().min(count);
+                serve(desk, most, &mut FrequencySketch::new(&mut words[0..lent]))?
+            }
+            Some(Making::Queue(count)) => {
+                let lent = most.min(count);
+                serve(desk, most, &mut Deque::new(&mut nodes[0..lent]))?
+            }
         };
     }
-    desk.end_list()
+    desk.finish()
 }

@@ -1,7 +1,8 @@
 -- What is certain of instants and of being over.
 use Rattle.std.specs.Prelude.{◌≡◌, ℕ, ◌+◌, ◌^◌, ◌<◌, ◌≤◌, true, false, Option}
-use Rattle.times.specs.declared.bounded.Duration.{Duration}
-use Rattle.times.specs.declared.bounded.Instant.{Instant}
+use Rattle.times.specs.declared.nanos.Nanos.{Nanos}
+use Rattle.times.specs.declared.nanos.Point.{Point}
+use Rattle.times.specs.declared.nanos.Span.{Span}
 use Rattle.times.specs.Expiry.{over, expired}
 
 -- What is over stays over.
@@ -18,4 +19,4 @@ ExpiryEdge = (span from : ℕ) → Edge span from
 
 -- No instant and duration sum to more than 2^63, which a 64-bit number holds.
 abbrev pub SumsFit : Type 0
-SumsFit = (from : Instant) (span : Duration) → from.nanos + span.nanos ≤ 2 ^ 63
+SumsFit = (from : Nanos Point) (span : Nanos Span) → from.nanos + span.nanos ≤ 2 ^ 63

@@ -7,6 +7,6 @@ pub returns : goal.returns
 returns g c =
     let k = g.K.EntryKind in
     let law = g.met.K.EntryKind in
-    let kind = kind_of k.alike k.hashed k.weighs k.weighed in
+    let kind = kind_of k.alike k.hashed k.weighs k.WEIGHED in
     let laws = lawful kind law.refl law.symm law.trans law.hashes law.weights law.light law.bounded in
     λ choices sizes ts few fr. account kind choices sizes laws ts few fr

@@ -3,7 +3,7 @@ ghost use Rattle.std.specs.Prelude.{◌≡◌};
 ghost use Rattle.times.specs.Expiry.{over, expired, span_of};
 ghost use Rattle.times.specs.Laws.{ExpiryEdge, ExpiryLasts, SumsFit};
 
-use super::{Duration, Instant};
+use crate::nanos::{Duration, Instant};
 
 impl Duration {
     /// Whether this span is over at `now`, begun at `from`.
@@ -12,7 +12,7 @@ impl Duration {
         ensures edge { ExpiryEdge }
         ensures fits { SumsFit }
     {
-        from.nanos + self.nanos <= now.nanos
+        from.nanos() + self.nanos() <= now.nanos()
     }
 }
 
@@ -21,18 +21,12 @@ pub fn is_expired(span: Option<Duration>, from: Instant, now: Instant) -> bool
     ensures answer { result ≡ expired (span_of span) from.nanos now.nanos }
     ensures lasts { ExpiryLasts }
 {
-    match span {
-        Some(d) => d.is_over(from, now),
-        None => false,
-    }
+    span.is_some_and(|d| d.is_over(from, now))
 }
 
 /// The same from a plain number, as it lies in memory; one that is no instant is never reached.
 pub fn is_expired_since(span: Option<Duration>, from: u64, now: Instant) -> bool
     ensures { result ≡ expired (span_of span) from now.nanos }
 {
-    match span {
-        Some(d) => from <= now.nanos && d.nanos <= now.nanos - from,
-        None => false,
-    }
+    span.is_some_and(|d| from <= now.nanos() && d.nanos() <= now.nanos() - from)
 }

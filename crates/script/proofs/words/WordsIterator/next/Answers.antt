@@ -3,7 +3,7 @@ use lib.Seq.{drop-nil}
 use Rattle.script.specs.Lines.{words, first, others}
 use Rattle.script.specs.Runs.{leading}
 use Rattle.script.proofs.Fronts.{from_on, no_word, a_word}
-use Rattle.script.proofs.words.Words.next.Goals as goal
+use Rattle.script.proofs.words.WordsIterator.next.Goals as goal
 
 -- the code's `line[from..]` and what is left of it: f blanks, then n other bytes
 abbrev behind : ℕ → List ℕ → List ℕ
@@ -21,10 +21,9 @@ none_left f n line ef en z =
     let w = no_word line (behind f line) b.0 (sym en ∙ z) in
     (rw w.0, rw w.0 (ap words (from_on n (behind f line) ∙ ap (drop n) w.1 ∙ drop-nil n)))
 
-pub returns-then-to-eq0 : goal.returns-then-to-eq0
-returns-then-to-eq0 c =
-    let e = none_left c.leading_bytes-from.result c.leading_bytes-to.result c.args.self.now.rest.now c.leading_bytes-from.ensures.is c.leading_bytes-to.ensures.is c.if-to-eq0.true in
-    record { word = e.0; left = e.1 }
+pub returns-then-to-eq0-clause-steps : goal.returns-then-to-eq0-clause-steps
+returns-then-to-eq0-clause-steps c =
+    none_left c.leading_bytes-from.result c.leading_bytes-to.result c.args.self.now.rest.now c.leading_bytes-from.ensures.is c.leading_bytes-to.ensures.is c.if-to-eq0.true
 
 some_left : (f n : ℕ) (line : List ℕ) → f ≡ leading true line → n ≡ leading false (behind f line) → n ≤ length (behind f line) → 0 < n
     → (Some (take (n - 0) (behind f line)) ≡ first (words line)) × (words (behind n (behind f line)) ≡ others (words line))
@@ -34,8 +33,7 @@ some_left f n line ef en l pos =
     let z : n - 0 ≡ n = omega arith in
     (rw (w, z), rw w (ap words (from_on n (behind f line))))
 
-pub returns-else-to-eq0 : goal.returns-else-to-eq0
-returns-else-to-eq0 c =
+pub returns-else-to-eq0-clause-steps : goal.returns-else-to-eq0-clause-steps
+returns-else-to-eq0-clause-steps c =
     let pos : 0 < c.leading_bytes-to.result = omega arith in
-    let e = some_left c.leading_bytes-from.result c.leading_bytes-to.result c.args.self.now.rest.now c.leading_bytes-from.ensures.is c.leading_bytes-to.ensures.is c.leading_bytes-to.ensures.within pos in
-    record { word = e.0; left = e.1 }
+    some_left c.leading_bytes-from.result c.leading_bytes-to.result c.args.self.now.rest.now c.leading_bytes-from.ensures.is c.leading_bytes-to.ensures.is c.leading_bytes-to.ensures.within pos
