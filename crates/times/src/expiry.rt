@@ -21,7 +21,7 @@ pub fn is_expired(span: Option<Duration>, from: Instant, now: Instant) -> bool
     ensures answer { result ≡ expired (span_of span) from.nanos now.nanos }
     ensures lasts { ExpiryLasts }
 {
-    span.is_some_and(|d| d.is_over(from, now))
+    is_expired_since(span, from.nanos(), now)
 }
 
 /// The same from a plain number, as it lies in memory; one that is no instant is never reached.
