@@ -67,6 +67,9 @@ unfolding raised_to
 length_raised_to ws hash zero = refl
 length_raised_to ws hash (suc n) = length_raised_at (raised_to ws hash n) hash n ∙ length_raised_to ws hash n
 
+pub length_raised_all : (ws : List ℕ) (hash : ℕ) → length (raised_all ws hash) ≡ length ws
+length_raised_all ws hash = ap length (sym (raised_to_all ws hash)) ∙ length_raised_to ws hash 4
+
 -- a counter of another number stays
 pub set_raised_other : (ws : List ℕ) (p k q j : ℕ) → j ≢ k → counter (get_or (set ws p (raised (get_or ws p 0) k)) q 0) j ≡ counter (get_or ws q 0) j
 set_raised_other ws p k q j n =

@@ -1,7 +1,6 @@
 pub mod Word
 pub mod Depths
 pub mod Powers
-pub mod Parts
 pub mod Becoming
 pub mod Cases
 pub mod Raising

@@ -15,19 +15,20 @@
 #![tactic(auto)]
 
 ghost use Rattle.std.specs.Prelude.{◌≤◌, length};
+ghost use Rattle.sketch.specs.Openness.{table_len};
 
 mod counters;
 pub mod frequency_sketch;
 pub mod increment;
 mod meter;
-mod table;
 
 pub use increment::Increment;
-use table::Table;
+use meter::Meter;
 
-/// A frequency sketch over lent words: its table lies within them.
+/// A frequency sketch over lent words: once it is open its table is their front.
 #[derive(Drop)]
 pub struct FrequencySketch<'a> {
-    table: Table<'a>,
-    ghost fits: { table.meter.table_len ≤ length table.words.now },
+    words: &'a mut [u64],
+    meter: Option<Meter>,
+    ghost fits: { table_len meter ≤ length words.now },
 }

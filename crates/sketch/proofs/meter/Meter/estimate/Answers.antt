@@ -1,15 +1,15 @@
 use Rattle.std.proofs.Common.{◌≡◌, refl, ap, ◌∙◌, arith}
 use mir.Facts.{Fits-below}
-use Rattle.sketch.specs.Tables.{held}
+use Rattle.sketch.specs.Tables.{place, held}
 use Rattle.sketch.proofs.Depths.{least_to, least_to_all, least_to_le, least_to_more, number_is}
-use Rattle.sketch.proofs.counters.estimate_in.Goals as goal
+use Rattle.sketch.proofs.meter.Meter.estimate.Goals as goal
 
 pub loop-depth-init : goal.loop-depth-init
 unfolding least_to
 loop-depth-init c = refl
 
 pub loop-depth-preserved : goal.loop-depth-preserved
-unfolding held
+unfolding held place
 loop-depth-preserved c =
     let m = least_to_more c.args.table.now c.args.hash c.loop-depth.depth in
     let n = number_is c.args.hash c.loop-depth.depth in
