@@ -5,7 +5,7 @@ use Rattle.sketch.specs.declared.meter.Meter.{Meter}
 use Rattle.sketch.specs.declared.FrequencySketch.{FrequencySketch}
 use Rattle.sketch.specs.Sketches.{Sketch, closed}
 use Rattle.sketch.specs.Openness.{table_len}
-use Rattle.sketch.specs.Meaning.{lent_words, meaning, sketch_in, Becomes}
+use Rattle.sketch.specs.Meaning.{lent_words, meaning, sketch_by, sketch_in, Becomes}
 
 -- the table has as many words as its meter says
 pub table_length : (o : Option Meter) (ws : List ℕ) → table_len o ≤ length ws → length (sketch_in o ws).words ≡ table_len o
@@ -14,8 +14,7 @@ table_length None ws h = refl
 table_length (Some m) ws h = length-take-le m.table_len ws h
 
 -- the sketch of a value with a meter, and of one without
-pub open_is : (f : FrequencySketch) (m : Meter) → f.meter ≡ Some m
-    → meaning f ≡ record { words = take m.table_len (lent_words f); sample = m.sample_size; size = m.size }
+pub open_is : (f : FrequencySketch) (m : Meter) → f.meter ≡ Some m → meaning f ≡ sketch_by m (lent_words f)
 unfolding sketch_in
 open_is f m e = ap (λ (x : Option Meter). sketch_in x (lent_words f)) e
 

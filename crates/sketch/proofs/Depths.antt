@@ -1,5 +1,6 @@
 use Rattle.std.proofs.Common.{◌≡◌, ℕ, zero, suc, ◌+◌, ◌-◌, ◌*◌, ◌/◌, ◌%◌, ◌^◌, ◌<◌, ◌≤◌, min, Bool, false, ◌||◌, ltb, ◌≢◌, List, [], ◌++◌, map, length, get_or, take, drop, set, sym, refl, ap, ◌∙◌, subst, ⊎_elim, mul_assoc, add-mul, add-one, arith, length-set, get_or-set_other, get_or-set_same}
-use native.Mathlib.Nat.{add-mul-mod_self_left, mod-add-div, zero-div}
+use native.Mathlib.Nat.{zero-div}
+use Rattle.std.proofs.lemmas.Nat.{mul-mod_first}
 use lib.Bits.{bit_and, and_mask}
 use lib.Seq.{set-get_or}
 use Rattle.std.proofs.lemmas.List.{set_past, drop_more, get_or_at, length-map, length-take-le}
@@ -9,18 +10,11 @@ use Rattle.sketch.specs.Powers.{PowerOfTwo}
 use Rattle.sketch.specs.Tables.{place, number, held, estimate, raised_at, raised_all, rises, mixed, spread}
 use Rattle.sketch.proofs.Word.{counter_lt, counter_raised_other, raised_full}
 
-mul_mod_l : (x s m : ℕ) → (x % m * s) % m ≡ (x * s) % m
-mul_mod_l x s m =
-    sym (add-mul-mod_self_left (x % m * s) m (x / m * s))
-    ∙ ap (λ (y : ℕ). (x % m * s + y) % m) (sym (mul_assoc m (x / m) s))
-    ∙ ap (λ (y : ℕ). y % m) (sym (add-mul (x % m) (m * (x / m)) s))
-    ∙ ap (λ (y : ℕ). y * s % m) (mod-add-div x m)
-
 -- what the code computes for a place, in a table of a power of two
 pub place_is : (n hash seed : ℕ) → PowerOfTwo n → (a : ℕ) → a ≡ (hash + seed) % 2 ^ 64 * seed % 2 ^ 64
     → bit_and ((a + a / 2 ^ 32) % 2 ^ 64) (n - 1) ≡ spread (mixed hash seed) % n
 place_is n hash seed p a e =
-    let ea : a ≡ mixed hash seed = e ∙ mul_mod_l (hash + seed) seed (2 ^ 64) in
+    let ea : a ≡ mixed hash seed = e ∙ mul-mod_first (hash + seed) seed (2 ^ 64) in
     ap (λ (x : ℕ). bit_and ((x + x / 2 ^ 32) % 2 ^ 64) (n - 1)) ea
     ∙ ap (λ (x : ℕ). bit_and (spread (mixed hash seed)) (x - 1)) p.1
     ∙ and_mask (spread (mixed hash seed)) p.0

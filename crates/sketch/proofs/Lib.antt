@@ -6,3 +6,4 @@ pub mod Cases
 pub mod Raising
 pub mod Runs
 pub mod Openings
+pub mod Increments

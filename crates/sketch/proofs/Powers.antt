@@ -1,6 +1,7 @@
 -- Shows that `least_power` is the least power of two not below a number, and that what `next_power_of_two` promises pins it.
 use Rattle.std.proofs.Common.{◌≡◌, ℕ, zero, suc, ◌+◌, ◌*◌, ◌/◌, ◌%◌, ◌^◌, ◌<◌, ◌≤◌, max, ◌≢◌, ◌==◌, sym, refl, ap, ◌∙◌, subst, ⊎_elim, le_refl, mul_assoc, mul_comm, pow-suc, arith, pow_pos, pow_mono}
 use Rattle.std.proofs.lemmas.Bool.{lt-ltb, le-ltb, eq-eqb, ne_eqb, cases_lt, cases_eq}
+use Rattle.std.proofs.Math.Nat.{mul_right_comm}
 use Rattle.std.proofs.lemmas.Nat.{ones_cat, ones_le_self, zero_from_ones}
 use Rattle.std.specs.Int.Count.{ones, ones_step}
 use Rattle.sketch.specs.declared.meter.Meter.{Meter}
@@ -18,9 +19,6 @@ below_pow : (m : ℕ) → m ≤ 2 ^ m
 below_pow zero = omega arith
 below_pow (suc m) = omega (arith, below_pow m, pow-suc 2 m, pow_pos m)
 
-mul_right : (a b : ℕ) → a * b * 2 ≡ a * 2 * b
-mul_right a b = mul_assoc a b 2 ∙ ap (λ (x : ℕ). a * x) (mul_comm b 2) ∙ sym (mul_assoc a 2 b)
-
 doubled_least : (n k m : ℕ) → m ≤ 2 ^ k * 2 ^ n → ((j : ℕ) → m ≤ 2 ^ j → 2 ^ k ≤ 2 ^ j) → LeastPower m (doubled n (2 ^ k) m)
 unfolding doubled
 doubled_least zero k m h f = record { power = (k, refl); enough = omega arith; least = f }
@@ -28,7 +26,7 @@ doubled_least (suc n) k m h f =
     ⊎_elim
     (λ (l : 2 ^ k < m).
     let e : 2 ^ suc k ≡ 2 ^ k * 2 = pow-suc 2 k in
-    let h' : m ≤ 2 ^ suc k * 2 ^ n = omega (arith, h, ap (λ (x : ℕ). 2 ^ k * x) (pow-suc 2 n), mul_assoc (2 ^ k) (2 ^ n) 2, mul_right (2 ^ k) (2 ^ n), ap (λ (x : ℕ). x * 2 ^ n) e) in
+    let h' : m ≤ 2 ^ suc k * 2 ^ n = omega (arith, h, ap (λ (x : ℕ). 2 ^ k * x) (pow-suc 2 n), mul_assoc (2 ^ k) (2 ^ n) 2, mul_right_comm (2 ^ k) (2 ^ n) 2, ap (λ (x : ℕ). x * 2 ^ n) e) in
     let f' : (j : ℕ) → m ≤ 2 ^ j → 2 ^ suc k ≤ 2 ^ j = λ j q. let s : 2 ^ k < 2 ^ j = omega arith in omega (arith, e, pow_order k j s) in
     rw (lt-ltb (2 ^ k) m l) (subst (λ (x : ℕ). LeastPower m (doubled n x m)) e (doubled_least n (suc k) m h' f')))
     (λ (l : m ≤ 2 ^ k). rw (le-ltb (2 ^ k) m l) (record { power = (k, refl); enough = l; least = f }))

@@ -13,9 +13,13 @@ abbrev pub lent : FrequencySketch → ℕ
 lent f = length (lent_words f)
 
 -- the sketch in words with this meter: its table is their front
+abbrev pub sketch_by : Meter → List ℕ → Sketch
+sketch_by m ws = record { words = take m.table_len ws; sample = m.sample_size; size = m.size }
+
+-- the sketch in words: closed until there is a meter
 unfoldable pub sketch_in : Option Meter → List ℕ → Sketch
 sketch_in None ws = closed
-sketch_in (Some m) ws = record { words = take m.table_len ws; sample = m.sample_size; size = m.size }
+sketch_in (Some m) ws = sketch_by m ws
 
 -- the sketch that a value of the type is
 abbrev pub meaning : FrequencySketch → Sketch
