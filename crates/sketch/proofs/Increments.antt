@@ -17,11 +17,14 @@ use Rattle.sketch.proofs.Cases.{is_closed, is_full, is_counted, is_halved, incre
 use Rattle.sketch.proofs.Runs.{increment_raises, few_never_halve}
 
 -- all that an increment promises where it comes to r and leaves g
-pub record Promised (f g : FrequencySketch) (hash : ℕ) (r : Increment) : Type 0 where
-  pub answer : r ≡ outcome (meaning f) hash
-  pub memory : Becomes f g (incremented (meaning f) hash)
-  pub raises : IncrementRaises r (meaning f) (meaning g) hash
-  pub few : FewNeverHalve
+abbrev pub Promised : FrequencySketch → FrequencySketch → ℕ → Increment → Type 0
+Promised f g hash r =
+    record {
+      answer : r ≡ outcome (meaning f) hash;
+      memory : Becomes f g (incremented (meaning f) hash);
+      raises : IncrementRaises r (meaning f) (meaning g) hash;
+      few : FewNeverHalve;
+    }
 
 by_memory : (f g : FrequencySketch) (hash : ℕ) (r : Increment) → outcome (meaning f) hash ≡ r → Becomes f g (incremented (meaning f) hash) → Promised f g hash r
 by_memory f g hash r o m =

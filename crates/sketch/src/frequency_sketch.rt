@@ -12,6 +12,7 @@ use crate::meter::Meter;
 
 impl<'a> FrequencySketch<'a> {
     /// A sketch that is closed, over these words, which become 0.
+    #[tactic(auto, unfolding(crate::specs::Meaning::sketch_in))]
     pub fn new(words: &'a mut [u64]) -> FrequencySketch<'a>
         ensures closed { meaning result ≡ closed }
         ensures words { lent_words result ≡ replicate (length words.old) 0 }
@@ -100,6 +101,7 @@ impl<'a> FrequencySketch<'a> {
     }
 
     /// How many increments that raise a counter fill the sample.
+    #[tactic(auto, unfolding(crate::specs::Meaning::sketch_in, crate::specs::Sketches::closed))]
     pub fn sample_size(&self) -> u64
         ensures { result ≡ (meaning self.now).sample }
     {
@@ -107,6 +109,7 @@ impl<'a> FrequencySketch<'a> {
     }
 
     /// How much of the sample is counted.
+    #[tactic(auto, unfolding(crate::specs::Meaning::sketch_in, crate::specs::Sketches::closed))]
     pub fn size(&self) -> u64
         ensures { result ≡ (meaning self.now).size }
     {

@@ -10,7 +10,7 @@ use Rattle.sketch.proofs.Increments.{promised_closed, full, counts, halves, prom
 use Rattle.sketch.proofs.FrequencySketch.increment.Goals as goal
 
 pub returns-in_default : goal.returns-in_default
-returns-in_default c = let p = promised_closed c.args.self.now c.args.hash c.in_default.is in record { answer = p.answer; memory = p.memory; raises = p.raises; few = p.few }
+returns-in_default c = promised_closed c.args.self.now c.args.hash c.in_default.is
 
 pub returns-then-not-raise : goal.returns-then-not-raise
 unfolding after
@@ -20,8 +20,7 @@ returns-then-not-raise c =
     let hash = c.args.hash in
     let no = sym c.raise.ensures.rose ∙ c.if-not-raise.true in
     let w = c.raise.ensures.words ∙ raised_all_full _ hash no in
-    let p = promised f k hash c.in-Some.is _ k c.raise.new.table Full (full f k hash c.in-Some.is no) c.in-Some.is refl refl (same_sketch _ _ _ _ _ _ w refl refl) in
-    record { answer = p.answer; memory = p.memory; raises = p.raises; few = p.few }
+    promised f k hash c.in-Some.is _ k c.raise.new.table Full (full f k hash c.in-Some.is no) c.in-Some.is refl refl (same_sketch _ _ _ _ _ _ w refl refl)
 
 pub overflow_add-size : goal.overflow_add-size
 overflow_add-size c = let s = c.in-Some.meter.short in Fits-of_lt (omega (arith, sample_small c.in-Some.meter))
@@ -34,9 +33,8 @@ returns-then-size-meter c =
     let hash = c.args.hash in
     let o = counts f k hash c.in-Some.is (sym c.raise.ensures.rose ∙ c.if-not-raise.false) c.if-size-meter.true in
     let e = c.with_size.ensures in
-    let p = promised f k hash c.in-Some.is _ c.with_size.result c.raise.new.table Counted o refl e.table_len refl
-        (same_sketch _ _ _ _ _ _ c.raise.ensures.words e.sample_size e.size) in
-    record { answer = p.answer; memory = p.memory; raises = p.raises; few = p.few }
+    promised f k hash c.in-Some.is _ c.with_size.result c.raise.new.table Counted o refl e.table_len refl
+    (same_sketch _ _ _ _ _ _ c.raise.ensures.words e.sample_size e.size)
 
 pub returns-else-size-meter : goal.returns-else-size-meter
 unfolding after counted halved_sketch
@@ -47,6 +45,5 @@ returns-else-size-meter c =
     let o = halves f k hash c.in-Some.is (sym c.raise.ensures.rose ∙ c.if-not-raise.false) c.if-size-meter.false in
     let r = c.raise.ensures.words in
     let e = c.halve.ensures in
-    let p = promised f k hash c.in-Some.is _ c.halve.result c.halve.new.table Halved o refl e.table_len refl
-        (same_sketch _ _ _ _ _ _ (e.words ∙ ap halved_all r) e.sample_size (e.size ∙ ap (λ (x : List ℕ). (k.size + 1) / 2 - odds_all x / 4) r)) in
-    record { answer = p.answer; memory = p.memory; raises = p.raises; few = p.few }
+    promised f k hash c.in-Some.is _ c.halve.result c.halve.new.table Halved o refl e.table_len refl
+    (same_sketch _ _ _ _ _ _ (e.words ∙ ap halved_all r) e.sample_size (e.size ∙ ap (λ (x : List ℕ). (k.size + 1) / 2 - odds_all x / 4) r))
