@@ -1,4 +1,5 @@
-use Rattle.std.proofs.Common.{◌≡◌, ℕ, zero, suc, ◌+◌, ◌-◌, ◌*◌, ◌/◌, ◌%◌, ◌^◌, ◌<◌, ◌≤◌, min, Bool, false, ◌||◌, ltb, ◌≢◌, List, [], ◌++◌, map, length, get_or, take, drop, set, sym, refl, ap, ◌∙◌, subst, ⊎_elim, mul_assoc, add-mul, add-one, arith, length-set, get_or-set_other, get_or-set_same}
+-- Shows where the four counters of a hash stand, what raising them one after the other does, and that nothing rises where all are full.
+use Rattle.std.proofs.Common.{◌≡◌, ℕ, zero, suc, ◌+◌, ◌-◌, ◌*◌, ◌/◌, ◌%◌, ◌^◌, ◌<◌, ◌≤◌, Bool, false, ◌||◌, ltb, ◌≢◌, List, [], ◌++◌, map, length, get_or, take, drop, set, sym, refl, ap, ◌∙◌, subst, ⊎_elim, add-one, arith, length-set, get_or-set_other, get_or-set_same}
 use native.Mathlib.Nat.{zero-div}
 use Rattle.std.proofs.lemmas.Nat.{mul-mod_first}
 use lib.Bits.{bit_and, and_mask}
@@ -22,10 +23,6 @@ place_is n hash seed p a e =
 
 -- ---- the loops over the depths
 
-unfoldable pub least_to : List ℕ → ℕ → ℕ → ℕ
-least_to ws hash zero = 15
-least_to ws hash (suc n) = min (held ws hash n) (least_to ws hash n)
-
 unfoldable pub raised_to : List ℕ → ℕ → ℕ → List ℕ
 raised_to ws hash zero = ws
 raised_to ws hash (suc n) = raised_at (raised_to ws hash n) hash n
@@ -38,9 +35,9 @@ pub held_lt : (ws : List ℕ) (hash depth : ℕ) → held ws hash depth < 16
 unfolding held
 held_lt ws hash depth = counter_lt (get_or ws (place (length ws) hash depth) 0) (number hash depth)
 
-pub least_to_all : (ws : List ℕ) (hash : ℕ) → least_to ws hash 4 ≡ estimate ws hash
-unfolding least_to estimate
-least_to_all ws hash = omega (arith, held_lt ws hash 0, held_lt ws hash 1, held_lt ws hash 2, held_lt ws hash 3)
+pub estimate_le : (ws : List ℕ) (hash : ℕ) → estimate ws hash ≤ 15
+unfolding estimate
+estimate_le ws hash = omega (arith, held_lt ws hash 0)
 
 pub raised_to_all : (ws : List ℕ) (hash : ℕ) → raised_to ws hash 4 ≡ raised_all ws hash
 unfolding raised_to raised_all
@@ -93,16 +90,7 @@ held_raised_to ws hash (suc n) j h =
     let l : n ≤ j = omega arith in
     held_raised_at_other (raised_to ws hash n) hash n j ne ∙ held_raised_to ws hash n j l
 
-pub least_to_le : (ws : List ℕ) (hash n : ℕ) → least_to ws hash n ≤ 15
-unfolding least_to
-least_to_le ws hash zero = omega arith
-least_to_le ws hash (suc n) = omega (arith, least_to_le ws hash n)
-
 -- one turn
-pub least_to_more : (ws : List ℕ) (hash n : ℕ) → least_to ws hash (n + 1) ≡ min (held ws hash n) (least_to ws hash n)
-unfolding least_to
-least_to_more ws hash n = ap (least_to ws hash) (add-one n)
-
 pub raised_to_more : (ws : List ℕ) (hash n : ℕ) → raised_to ws hash (n + 1) ≡ raised_at (raised_to ws hash n) hash n
 unfolding raised_to
 raised_to_more ws hash n = ap (raised_to ws hash) (add-one n)

@@ -1,5 +1,5 @@
 -- Shows what an increment comes to, read off the meter and the table, and that what it writes is the sketch after it.
-use Rattle.std.proofs.Common.{◌≡◌, ℕ, ◌+◌, ◌<◌, ◌≤◌, true, false, List, ◌++◌, length, take, drop, Some, None, refl, sym, ap, ◌∙◌, subst, arith}
+use Rattle.std.proofs.Common.{◌≡◌, ℕ, ◌+◌, ◌<◌, ◌≤◌, true, false, List, ◌++◌, length, drop, Some, None, refl, sym, ap, ◌∙◌, subst, arith}
 use Rattle.std.proofs.lemmas.List.{length-map, length-take-le}
 use Rattle.sketch.specs.declared.meter.Meter.{Meter}
 use Rattle.sketch.specs.declared.FrequencySketch.{FrequencySketch}

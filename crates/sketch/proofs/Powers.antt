@@ -1,5 +1,5 @@
 -- Shows that `least_power` is the least power of two not below a number, and that what `next_power_of_two` promises pins it.
-use Rattle.std.proofs.Common.{◌≡◌, ℕ, zero, suc, ◌+◌, ◌*◌, ◌/◌, ◌%◌, ◌^◌, ◌<◌, ◌≤◌, max, ◌≢◌, ◌==◌, sym, refl, ap, ◌∙◌, subst, ⊎_elim, le_refl, mul_assoc, mul_comm, pow-suc, arith, pow_pos, pow_mono}
+use Rattle.std.proofs.Common.{◌≡◌, ℕ, zero, suc, ◌+◌, ◌*◌, ◌/◌, ◌%◌, ◌^◌, ◌<◌, ◌≤◌, max, ◌≢◌, ◌==◌, sym, refl, ap, ◌∙◌, subst, ⊎_elim, le_refl, mul_assoc, pow-suc, arith, pow_pos, pow_mono}
 use Rattle.std.proofs.lemmas.Bool.{lt-ltb, le-ltb, eq-eqb, ne_eqb, cases_lt, cases_eq}
 use Rattle.std.proofs.Math.Nat.{mul_right_comm}
 use Rattle.std.proofs.lemmas.Nat.{ones_cat, ones_le_self, zero_from_ones}

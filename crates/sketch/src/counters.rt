@@ -4,7 +4,7 @@ ghost use Rattle.sketch.specs.Counters.{most, counter, raised};
 ghost use Rattle.sketch.specs.Tables.{halved_all, odds_all};
 
 /// The largest number that a counter holds.
-pub(crate) const MOST: u64 = 15;
+const MOST: u64 = 15;
 
 /// The low three bits of each counter.
 const RESET_MASK: u64 = 0x7777_7777_7777_7777;

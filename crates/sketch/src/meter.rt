@@ -1,9 +1,9 @@
 //! How large the table of an open sketch is, how full its sample, and where the counters of a hash stand in it.
 ghost use Rattle.std.specs.Prelude.{◌≡◌, ℕ, ◌-◌, ◌*◌, ◌/◌, ◌%◌, ◌<◌, ◌≤◌, length};
-ghost use Rattle.sketch.specs.Powers.{least_power};
+ghost use Rattle.sketch.specs.Powers.{least_power, LeastPower};
 ghost use Rattle.sketch.specs.Tables.{mixed, spread, estimate, raised_all, rises, halved_all, odds_all};
 
-use crate::counters::{self, MOST};
+use crate::counters::{self, counter_of};
 
 /// A mixture of seeds from FNV-1a, CityHash, and Murmur3. (Taken from Caffeine)
 const SEED: [u64; 4] = [
@@ -31,6 +31,7 @@ impl Meter {
     pub(crate) fn made_for(hashes: u64) -> Meter
         requires { (0 < hashes) × (hashes ≤ 8192) }
         ensures table_len { result.table_len ≡ least_power hashes }
+        ensures least { LeastPower hashes result.table_len }
         ensures sample_size { result.sample_size ≡ 10 * hashes }
         ensures size { result.size ≡ 0 }
     {
@@ -57,12 +58,10 @@ impl Meter {
         ensures { result ≡ estimate table.now hash }
     {
         let start = 4 * (hash & 3) as u32;
-        let mut least = MOST;
-        for (depth, seed) in SEED.iter().enumerate() {
-            let word = table[self.index_of(hash, *seed)];
-            least = counters::counter_of(word, start + depth as u32).min(least);
-        }
-        least as u8
+        let counters = SEED.iter().enumerate().map(|(depth, seed)| {
+            counter_of(table[self.index_of(hash, *seed)], start + depth as u32)
+        });
+        counters.min().unwrap_or(0) as u8
     }
 
     /// Raises each of the four counters of a hash in the table that is below 15, and says whether one rose.

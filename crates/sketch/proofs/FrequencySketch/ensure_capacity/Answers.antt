@@ -3,8 +3,8 @@ use Rattle.std.proofs.lemmas.List.{length-replicate}
 use Rattle.sketch.specs.declared.FrequencySketch.{FrequencySketch}
 use Rattle.sketch.specs.Powers.{least_power, LeastPower}
 use Rattle.sketch.specs.Sketches.{closed, opens_over, made_for, fresh, opened, ensured}
-use Rattle.sketch.specs.Meaning.{lent_words, lent, meaning, Becomes}
-use Rattle.sketch.proofs.Becoming.{unchanged, front_written, table_length, same_sketch}
+use Rattle.sketch.specs.Meaning.{lent, meaning, Becomes}
+use Rattle.sketch.proofs.Becoming.{unchanged, front_written, same_sketch}
 use Rattle.sketch.proofs.Openings.{opening_words, opening, stays_closed, stays_open, opens, least_table}
 use Rattle.sketch.proofs.FrequencySketch.ensure_capacity.Goals as goal
 

@@ -1,4 +1,4 @@
-use Rattle.std.proofs.Common.{rules, ◌≡◌, ℕ, List, take, Option, None, Some, sym, ap, arith}
+use Rattle.std.proofs.Common.{rules, ◌≡◌, ℕ, List, take, Option, None, Some, arith}
 use Rattle.std.specs.Prelude.{MatchOption}
 use Rattle.sketch.specs.declared.meter.Meter.{Meter}
 use Rattle.sketch.specs.Tables.{estimate}

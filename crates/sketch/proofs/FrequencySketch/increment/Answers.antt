@@ -1,4 +1,4 @@
-use Rattle.std.proofs.Common.{◌≡◌, ℕ, ◌+◌, ◌-◌, ◌/◌, ◌<◌, ◌^◌, List, refl, sym, ap, ◌∙◌, arith}
+use Rattle.std.proofs.Common.{ℕ, ◌+◌, ◌-◌, ◌/◌, List, refl, sym, ap, ◌∙◌, arith}
 use mir.Facts.{Fits-of_lt}
 use Rattle.sketch.specs.declared.increment.Increment.TheVariants.{Full, Counted, Halved}
 use Rattle.sketch.specs.Tables.{halved_all, odds_all}

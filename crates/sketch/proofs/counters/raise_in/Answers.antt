@@ -1,4 +1,4 @@
-use Rattle.std.proofs.Common.{ℕ, ◌^◌, ◌<◌, ◌≤◌, sym, arith}
+use Rattle.std.proofs.Common.{◌^◌, ◌<◌, ◌≤◌, sym, arith}
 use mir.Facts.{Fits-of_lt}
 use Rattle.sketch.specs.Counters.{counter}
 use Rattle.sketch.proofs.Word.{raise_fits, raise_is, raised_full}

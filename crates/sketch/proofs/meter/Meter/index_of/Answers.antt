@@ -1,4 +1,4 @@
-use Rattle.std.proofs.Common.{◌/◌, ◌<◌, ◌≤◌, refl, arith, pow_pos}
+use Rattle.std.proofs.Common.{◌/◌, ◌<◌, refl, arith, pow_pos}
 use Rattle.std.proofs.lemmas.Nat.{mod_below}
 use Rattle.sketch.specs.Tables.{spread, mixed}
 use Rattle.sketch.proofs.Depths.{place_is}
