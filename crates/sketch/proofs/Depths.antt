@@ -1,5 +1,7 @@
-use Rattle.std.proofs.Common.{◌≡◌, ℕ, zero, suc, ◌+◌, ◌-◌, ◌*◌, ◌/◌, ◌%◌, ◌^◌, ◌<◌, ◌≤◌, min, Bool, false, ◌||◌, ltb, ◌≢◌, List, [], ◌++◌, map, length, get_or, take, drop, set, sym, refl, ap, ◌∙◌, subst, ⊎_elim, mul_assoc, add-mul, add-one, arith, length-set, get_or-set_other, get_or-set_same}
-use native.Mathlib.Nat.{add-mul-mod_self_left, mod-add-div, zero-div}
+-- Shows where the four counters of a hash stand, what raising them one after the other does, and that nothing rises where all are full.
+use Rattle.std.proofs.Common.{◌≡◌, ℕ, zero, suc, ◌+◌, ◌-◌, ◌*◌, ◌/◌, ◌%◌, ◌^◌, ◌<◌, ◌≤◌, Bool, false, ◌||◌, ltb, ◌≢◌, List, [], ◌++◌, map, length, get_or, take, drop, set, sym, refl, ap, ◌∙◌, subst, ⊎_elim, add-one, arith, length-set, get_or-set_other, get_or-set_same}
+use native.Mathlib.Nat.{zero-div}
+use Rattle.std.proofs.lemmas.Nat.{mul-mod_first}
 use lib.Bits.{bit_and, and_mask}
 use lib.Seq.{set-get_or}
 use Rattle.std.proofs.lemmas.List.{set_past, drop_more, get_or_at, length-map, length-take-le}
@@ -9,28 +11,17 @@ use Rattle.sketch.specs.Powers.{PowerOfTwo}
 use Rattle.sketch.specs.Tables.{place, number, held, estimate, raised_at, raised_all, rises, mixed, spread}
 use Rattle.sketch.proofs.Word.{counter_lt, counter_raised_other, raised_full}
 
-mul_mod_l : (x s m : ℕ) → (x % m * s) % m ≡ (x * s) % m
-mul_mod_l x s m =
-    sym (add-mul-mod_self_left (x % m * s) m (x / m * s))
-    ∙ ap (λ (y : ℕ). (x % m * s + y) % m) (sym (mul_assoc m (x / m) s))
-    ∙ ap (λ (y : ℕ). y % m) (sym (add-mul (x % m) (m * (x / m)) s))
-    ∙ ap (λ (y : ℕ). y * s % m) (mod-add-div x m)
-
 -- what the code computes for a place, in a table of a power of two
 pub place_is : (n hash seed : ℕ) → PowerOfTwo n → (a : ℕ) → a ≡ (hash + seed) % 2 ^ 64 * seed % 2 ^ 64
     → bit_and ((a + a / 2 ^ 32) % 2 ^ 64) (n - 1) ≡ spread (mixed hash seed) % n
 place_is n hash seed p a e =
-    let ea : a ≡ mixed hash seed = e ∙ mul_mod_l (hash + seed) seed (2 ^ 64) in
+    let ea : a ≡ mixed hash seed = e ∙ mul-mod_first (hash + seed) seed (2 ^ 64) in
     ap (λ (x : ℕ). bit_and ((x + x / 2 ^ 32) % 2 ^ 64) (n - 1)) ea
     ∙ ap (λ (x : ℕ). bit_and (spread (mixed hash seed)) (x - 1)) p.1
     ∙ and_mask (spread (mixed hash seed)) p.0
     ∙ ap (λ (x : ℕ). spread (mixed hash seed) % x) (sym p.1)
 
 -- ---- the loops over the depths
-
-unfoldable pub least_to : List ℕ → ℕ → ℕ → ℕ
-least_to ws hash zero = 15
-least_to ws hash (suc n) = min (held ws hash n) (least_to ws hash n)
 
 unfoldable pub raised_to : List ℕ → ℕ → ℕ → List ℕ
 raised_to ws hash zero = ws
@@ -44,9 +35,9 @@ pub held_lt : (ws : List ℕ) (hash depth : ℕ) → held ws hash depth < 16
 unfolding held
 held_lt ws hash depth = counter_lt (get_or ws (place (length ws) hash depth) 0) (number hash depth)
 
-pub least_to_all : (ws : List ℕ) (hash : ℕ) → least_to ws hash 4 ≡ estimate ws hash
-unfolding least_to estimate
-least_to_all ws hash = omega (arith, held_lt ws hash 0, held_lt ws hash 1, held_lt ws hash 2, held_lt ws hash 3)
+pub estimate_le : (ws : List ℕ) (hash : ℕ) → estimate ws hash ≤ 15
+unfolding estimate
+estimate_le ws hash = omega (arith, held_lt ws hash 0)
 
 pub raised_to_all : (ws : List ℕ) (hash : ℕ) → raised_to ws hash 4 ≡ raised_all ws hash
 unfolding raised_to raised_all
@@ -66,6 +57,9 @@ pub length_raised_to : (ws : List ℕ) (hash n : ℕ) → length (raised_to ws h
 unfolding raised_to
 length_raised_to ws hash zero = refl
 length_raised_to ws hash (suc n) = length_raised_at (raised_to ws hash n) hash n ∙ length_raised_to ws hash n
+
+pub length_raised_all : (ws : List ℕ) (hash : ℕ) → length (raised_all ws hash) ≡ length ws
+length_raised_all ws hash = ap length (sym (raised_to_all ws hash)) ∙ length_raised_to ws hash 4
 
 -- a counter of another number stays
 pub set_raised_other : (ws : List ℕ) (p k q j : ℕ) → j ≢ k → counter (get_or (set ws p (raised (get_or ws p 0) k)) q 0) j ≡ counter (get_or ws q 0) j
@@ -96,16 +90,7 @@ held_raised_to ws hash (suc n) j h =
     let l : n ≤ j = omega arith in
     held_raised_at_other (raised_to ws hash n) hash n j ne ∙ held_raised_to ws hash n j l
 
-pub least_to_le : (ws : List ℕ) (hash n : ℕ) → least_to ws hash n ≤ 15
-unfolding least_to
-least_to_le ws hash zero = omega arith
-least_to_le ws hash (suc n) = omega (arith, least_to_le ws hash n)
-
 -- one turn
-pub least_to_more : (ws : List ℕ) (hash n : ℕ) → least_to ws hash (n + 1) ≡ min (held ws hash n) (least_to ws hash n)
-unfolding least_to
-least_to_more ws hash n = ap (least_to ws hash) (add-one n)
-
 pub raised_to_more : (ws : List ℕ) (hash n : ℕ) → raised_to ws hash (n + 1) ≡ raised_at (raised_to ws hash n) hash n
 unfolding raised_to
 raised_to_more ws hash n = ap (raised_to ws hash) (add-one n)

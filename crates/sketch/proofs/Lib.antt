@@ -1,9 +1,9 @@
 pub mod Word
 pub mod Depths
 pub mod Powers
-pub mod Parts
 pub mod Becoming
 pub mod Cases
 pub mod Raising
 pub mod Runs
 pub mod Openings
+pub mod Increments

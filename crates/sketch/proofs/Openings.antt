@@ -1,5 +1,5 @@
 -- Shows what opening comes to in each of its cases, and that the table which it makes has the least power of two of words.
-use Rattle.std.proofs.Common.{◌≡◌, ℕ, ◌<◌, ◌≤◌, true, false, ◌&&◌, eqb, ltb, leb, length, sym, ap, ◌∙◌, subst, arith, pow_pos, eqb-true}
+use Rattle.std.proofs.Common.{◌≡◌, ℕ, ◌<◌, ◌≤◌, true, false, ◌&&◌, min, max, eqb, ltb, leb, length, sym, ap, ◌∙◌, subst, arith, pow_pos, eqb-true}
 use Rattle.std.proofs.lemmas.List.{length-replicate}
 use Rattle.std.proofs.lemmas.Bool.{le-leb, lt-leb, leb-true, lt-ltb, le-ltb, and_parts, and_right}
 use Rattle.sketch.specs.Powers.{least_power, LeastPower}
@@ -36,6 +36,20 @@ pub table_within : (t c : ℕ) → opens_over t ≡ true → least_power (made_f
 table_within t c o =
     let w = opening_words t o in
     least_within (made_for t c) t (made_within t c w.0).1 w.2
+
+-- what is known of the number h of hashes that the code makes the sketch for
+pub record Opening (t c h : ℕ) : Type 0 where
+  pub is : h ≡ made_for t c
+  pub some : 0 < h
+  pub most : h ≤ 8192
+  pub fits : least_power h ≤ t
+
+pub opening : (t c h : ℕ) → opens_over t ≡ true → h ≡ max 128 (min c t) → Opening t c h
+unfolding made_for
+opening t c h o e =
+    let w = opening_words t o in
+    let i : h ≡ made_for t c = omega (arith, w.0) in
+    record { is = i; some = omega arith; most = omega (arith, w.0, w.1); fits = omega (arith, ap least_power i, table_within t c o) }
 
 module _ (t c : ℕ) (s : Sketch) where
   pub stays_closed : opens_over t ≡ false → s ≡ ensured t c s

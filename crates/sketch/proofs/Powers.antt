@@ -1,6 +1,10 @@
 -- Shows that `least_power` is the least power of two not below a number, and that what `next_power_of_two` promises pins it.
-use Rattle.std.proofs.Common.{◌≡◌, ℕ, zero, suc, ◌*◌, ◌/◌, ◌^◌, ◌<◌, ◌≤◌, max, sym, refl, ap, ◌∙◌, subst, ⊎_elim, mul_assoc, mul_comm, pow-suc, arith, pow_pos, pow_mono}
-use Rattle.std.proofs.lemmas.Bool.{lt-ltb, le-ltb, cases_lt}
+use Rattle.std.proofs.Common.{◌≡◌, ℕ, zero, suc, ◌+◌, ◌*◌, ◌/◌, ◌%◌, ◌^◌, ◌<◌, ◌≤◌, max, ◌≢◌, ◌==◌, sym, refl, ap, ◌∙◌, subst, ⊎_elim, le_refl, mul_assoc, pow-suc, arith, pow_pos, pow_mono}
+use Rattle.std.proofs.lemmas.Bool.{lt-ltb, le-ltb, eq-eqb, ne_eqb, cases_lt, cases_eq}
+use Rattle.std.proofs.Math.Nat.{mul_right_comm}
+use Rattle.std.proofs.lemmas.Nat.{ones_cat, ones_le_self, zero_from_ones}
+use Rattle.std.specs.Int.Count.{ones, ones_step}
+use Rattle.sketch.specs.declared.meter.Meter.{Meter}
 use Rattle.sketch.specs.Powers.{PowerOfTwo, doubled, least_power, LeastPower}
 
 -- powers are in the order of their exponents
@@ -15,9 +19,6 @@ below_pow : (m : ℕ) → m ≤ 2 ^ m
 below_pow zero = omega arith
 below_pow (suc m) = omega (arith, below_pow m, pow-suc 2 m, pow_pos m)
 
-mul_right : (a b : ℕ) → a * b * 2 ≡ a * 2 * b
-mul_right a b = mul_assoc a b 2 ∙ ap (λ (x : ℕ). a * x) (mul_comm b 2) ∙ sym (mul_assoc a 2 b)
-
 doubled_least : (n k m : ℕ) → m ≤ 2 ^ k * 2 ^ n → ((j : ℕ) → m ≤ 2 ^ j → 2 ^ k ≤ 2 ^ j) → LeastPower m (doubled n (2 ^ k) m)
 unfolding doubled
 doubled_least zero k m h f = record { power = (k, refl); enough = omega arith; least = f }
@@ -25,7 +26,7 @@ doubled_least (suc n) k m h f =
     ⊎_elim
     (λ (l : 2 ^ k < m).
     let e : 2 ^ suc k ≡ 2 ^ k * 2 = pow-suc 2 k in
-    let h' : m ≤ 2 ^ suc k * 2 ^ n = omega (arith, h, ap (λ (x : ℕ). 2 ^ k * x) (pow-suc 2 n), mul_assoc (2 ^ k) (2 ^ n) 2, mul_right (2 ^ k) (2 ^ n), ap (λ (x : ℕ). x * 2 ^ n) e) in
+    let h' : m ≤ 2 ^ suc k * 2 ^ n = omega (arith, h, ap (λ (x : ℕ). 2 ^ k * x) (pow-suc 2 n), mul_assoc (2 ^ k) (2 ^ n) 2, mul_right_comm (2 ^ k) (2 ^ n) 2, ap (λ (x : ℕ). x * 2 ^ n) e) in
     let f' : (j : ℕ) → m ≤ 2 ^ j → 2 ^ suc k ≤ 2 ^ j = λ j q. let s : 2 ^ k < 2 ^ j = omega arith in omega (arith, e, pow_order k j s) in
     rw (lt-ltb (2 ^ k) m l) (subst (λ (x : ℕ). LeastPower m (doubled n x m)) e (doubled_least n (suc k) m h' f')))
     (λ (l : m ≤ 2 ^ k). rw (le-ltb (2 ^ k) m l) (record { power = (k, refl); enough = l; least = f }))
@@ -58,3 +59,46 @@ least_within m t h e =
     let p = (least_power_is t).power in
     let q : m ≤ 2 ^ p.0 = omega (arith, p.1, e) in
     omega (arith, (least_power_is m).least p.0 q, p.1, e)
+
+-- an open sketch has words, and its sample is small
+pub table_some : (m : Meter) → 0 < m.table_len
+table_some m = let p = table_power m.table_len (m.sample_size / 10) m.power in omega (arith, pow_pos p.0, p.1)
+
+pub sample_small : (m : Meter) → m.sample_size < 2 ^ 17
+sample_small m = let e = (least_power_is (m.sample_size / 10)).enough in let p = m.power in let f = m.few in omega arith
+
+-- ---- one bit set
+
+one_bit : (k : ℕ) → ones (2 ^ k) ≡ 1
+unfolding ones
+one_bit k = ap ones (let e : 2 ^ k ≡ 1 * 2 ^ k + 0 = omega arith in e) ∙ ones_cat k 1 0 (pow_pos k)
+
+-- a number with one bit set is a power of two; a fuel of n is enough
+power_in : (n t : ℕ) → t ≤ n → ones t ≡ 1 → PowerOfTwo t
+power_in zero t h e = absurd (let z : t ≡ 0 = omega arith in omega (arith, ones_le_self t))
+power_in (suc n) t h e =
+    ⊎_elim
+    (λ (l : t % 2 < 1).
+    let s : ones (t / 2) ≡ 1 = omega (arith, ones_step t) in
+    let h' : t / 2 ≤ n = omega (arith, ones_le_self t) in
+    let p = power_in n (t / 2) h' s in
+    (suc p.0, omega (arith, p.1, pow-suc 2 p.0)))
+    (λ (l : 1 ≤ t % 2).
+    let s : ones (t / 2) ≡ 0 = omega (arith, ones_step t) in
+    let z = zero_from_ones (t / 2) s in
+    (0, omega arith))
+    (cases_lt (t % 2) 1)
+
+-- `is_power_of_two` says whether a number is its own least power of two
+pub power_test : (t : ℕ) → (ones t == 1) ≡ (least_power t == t)
+power_test t =
+    ⊎_elim
+    (λ (e : ones t ≡ 1).
+    let p = power_in t t (le_refl t) e in
+    let i = least_power_is t in
+    let l : least_power t ≡ t = omega (arith, i.enough, i.least p.0 (let q : t ≤ 2 ^ p.0 = omega (arith, p.1) in q), p.1) in
+    eq-eqb (ones t) 1 e ∙ sym (eq-eqb (least_power t) t l))
+    (λ (e : ones t ≢ 1).
+    let n : least_power t ≢ t = λ q. let i = (least_power_is t).power in e (ap ones (sym q ∙ i.1) ∙ one_bit i.0) in
+    ne_eqb (ones t) 1 e ∙ sym (ne_eqb (least_power t) t n))
+    (cases_eq (ones t) 1)

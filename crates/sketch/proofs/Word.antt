@@ -1,3 +1,4 @@
+-- Shows that the code's shifts and masks on a word do to its counters what the definitions say.
 use Rattle.std.proofs.Common.{◌≡◌, ℕ, zero, suc, ◌+◌, ◌*◌, ◌/◌, ◌%◌, ◌^◌, ◌<◌, ◌≤◌, min, ◌≢◌, map, get_or, sym, refl, ap, ◌∙◌, ⊎_elim, div-one, arith, lit<, pow-add, shr-shr}
 use lib.Bits.{bit_and, and_block, and_mask, and_zero_r}
 use lib.Count.{ones, ones_cat, ones_step}

@@ -11,23 +11,26 @@
 //! is always possible: other hashes may share all four counters.
 //!
 //! The idea of the proof: a word is the list of its counters, and the tricks with shifts and masks are shown
-//! equal to what happens in that list; above that, only counters are spoken of.
+//! equal to what happens in that list; above that, only counters are spoken of. Where they stand is known by the
+//! meter of an open sketch, whose type says that its table's length is a power of two.
 #![tactic(auto)]
 
 ghost use Rattle.std.specs.Prelude.{◌≤◌, length};
+ghost use Rattle.sketch.specs.Openness.{table_len};
 
 mod counters;
 pub mod frequency_sketch;
 pub mod increment;
 mod meter;
-mod table;
 
 pub use increment::Increment;
-use table::Table;
+use meter::Meter;
 
-/// A frequency sketch over lent words: its table lies within them.
+/// A frequency sketch over lent words: once it is open its table is their front.
 #[derive(Drop)]
 pub struct FrequencySketch<'a> {
-    table: Table<'a>,
-    ghost fits: { table.meter.table_len ≤ length table.words.now },
+    // The table's length stands beside the words: lent memory is all there is, and a table may grow within it.
+    words: &'a mut [u64],
+    meter: Option<Meter>,
+    ghost fits: { table_len meter ≤ length words.now },
 }

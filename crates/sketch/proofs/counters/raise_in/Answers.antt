@@ -1,28 +1,21 @@
-use Rattle.std.proofs.Common.{◌≡◌, refl, ap, ◌∙◌, le_refl, arith}
-use Rattle.sketch.specs.Tables.{held, raised_at}
-use Rattle.sketch.proofs.Depths.{raised_to, rises_to, raised_to_all, rises_to_all, raised_to_more, rises_to_more, held_raised_to, number_is}
+use Rattle.std.proofs.Common.{◌^◌, ◌<◌, ◌≤◌, sym, arith}
+use mir.Facts.{Fits-of_lt}
+use Rattle.sketch.specs.Counters.{counter}
+use Rattle.sketch.proofs.Word.{raise_fits, raise_is, raised_full}
 use Rattle.sketch.proofs.counters.raise_in.Goals as goal
 
-pub loop-depth-init : goal.loop-depth-init
-unfolding raised_to rises_to
-loop-depth-init c = (refl, refl)
+pub overflow_add-word : goal.overflow_add-word
+overflow_add-word c =
+    let f : c.args.word.now < 2 ^ 64 = omega arith in
+    let l : counter c.args.word.now c.args.number < 15 = omega arith in
+    Fits-of_lt (raise_fits c.args.word.now c.args.number f c.requires l)
 
-pub loop-depth-preserved : goal.loop-depth-preserved
-unfolding held raised_at
-loop-depth-preserved c =
-    let ws = c.args.table.now in
-    let h = c.args.hash in
-    let d = c.loop-depth.depth in
-    let n = number_is h d in
-    let t = raised_to_more ws h d in
-    let r = rises_to_more ws h d in
-    let k = held_raised_to ws h d d (le_refl d) in
-    (cc, cc)
+pub returns-then-rises-clause-word : goal.returns-then-rises-clause-word
+returns-then-rises-clause-word c =
+    let l : counter c.args.word.now c.args.number < 15 = omega arith in
+    raise_is c.args.word.now c.args.number c.requires l
 
-pub returns : goal.returns
-returns c =
-    let e : c.loop-depth.depth ≡ 4 = omega arith in
-    record {
-      words = c.loop-depth.invariant.0 ∙ ap (raised_to c.args.table.now c.args.hash) e ∙ raised_to_all c.args.table.now c.args.hash;
-      rose = c.loop-depth.invariant.1 ∙ ap (rises_to c.args.table.now c.args.hash) e ∙ rises_to_all c.args.table.now c.args.hash;
-    }
+pub returns-else-rises-clause-word : goal.returns-else-rises-clause-word
+returns-else-rises-clause-word c =
+    let l : 15 ≤ counter c.args.word.now c.args.number = omega arith in
+    sym (raised_full c.args.word.now c.args.number l)

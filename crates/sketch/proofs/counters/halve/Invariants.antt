@@ -1,6 +1,6 @@
 use Rattle.std.proofs.Common.{◌≡◌, ◌*◌, ◌≤◌, ◌++◌, map, take, drop, sum_by}
 use Rattle.sketch.specs.Counters.{halved, odds}
-use Rattle.sketch.proofs.counters.halve_in.Given as goal
+use Rattle.sketch.proofs.counters.halve.Given as goal
 
 abbrev pub invariant-loop-word : goal.invariant-loop-word
 invariant-loop-word l =

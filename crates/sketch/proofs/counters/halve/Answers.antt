@@ -7,7 +7,7 @@ use Rattle.sketch.specs.Counters.{halved, odds}
 use Rattle.sketch.specs.Tables.{halved_all, odds_all}
 use Rattle.sketch.proofs.Word.{halved_is, odds_is, odds_le}
 use Rattle.sketch.proofs.Depths.{front_at}
-use Rattle.sketch.proofs.counters.halve_in.Goals as goal
+use Rattle.sketch.proofs.counters.halve.Goals as goal
 
 pub overflow_add-odd : goal.overflow_add-odd
 overflow_add-odd c =
