@@ -3,7 +3,7 @@ ghost use Rattle.std.specs.Prelude.{◌≡◌};
 ghost use Rattle.deque.specs.Refusals.{refusal_number};
 
 /// Why a call did nothing.
-#[derive(Clone, Copy)]
+#[derive(Clone, Copy, Debug, PartialEq, Eq)]
 pub enum Refusal {
     /// The call wants a linked node, and this one is not linked or not lent.
     NotLinked,
