@@ -1,16 +1,15 @@
 -- What a write to one node leaves of the others, how many are linked, and where the walk along the links leads.
-use Rattle.std.proofs.Common.{◌≡◌, ℕ, zero, suc, ◌+◌, ◌-◌, ◌<◌, ◌≤◌, min, true, false, cond, eqb, List, [], ◌∷◌, length, get_or, take, set, Some, None, Option, sym, refl, ap, ◌∙◌, inl, inr, arith}
+use Rattle.std.proofs.Common.{◌≡◌, ℕ, zero, suc, ◌<◌, ◌≤◌, min, true, false, cond, eqb, List, [], ◌∷◌, ◌++◌, length, get_or, map, take, drop, set, Some, None, Option, sym, refl, ap, ◌∙◌, inl, inr, arith}
 use Rattle.std.specs.List.{slice_get}
 use Rattle.std.proofs.lemmas.List.{length-map, length-take-le, take-map}
-use Rattle.std.proofs.lemmas.Option.{slice_get_past}
 use Rattle.std.proofs.lemmas.Bool.Decides.{nat_tests}
-use Rattle.std.proofs.lemmas.Bool.{cases_eq, cases_Bool, eqb-true, cases_lt}
+use Rattle.std.proofs.lemmas.Bool.{cases_eq, cases_Bool}
 use Rattle.deque.specs.declared.node.Node.{Node}
-use Rattle.links.specs.Places.{is, pick, first, has, after, distinct}
+use Rattle.links.specs.Places.{is, first, has, after, distinct}
 use Rattle.links.specs.Links.{most}
 use Rattle.deque.specs.Views.{View, view_of, views, next_of, linked_of, element_of, linked_count}
-use Rattle.deque.specs.Chain.{walk, State, Within}
-use Rattle.deque.specs.Edits.{edited, edited_at, next_to, prev_to, with_nodes, bridge_state, loose}
+use Rattle.deque.specs.Chain.{walk}
+use Rattle.deque.specs.Edits.{edited, edited_at, loose}
 use Rattle.links.proofs.Orders.{head_apart, tail_apart, both_ways}
 
 abbrev pub mapped : {T : Type 0} → (View T → View T) → Option (View T) → Option (View T)
@@ -35,17 +34,11 @@ module _ {T : Type 0} where
   nth_views (m ∷ ns) (suc i) n e = nth_views ns i n e
 
   -- the part that is lent: n of the nodes
-  pub part_size : (n : ℕ) (ns : List (Node T)) (ms : List (View T)) → length ms ≡ length (views (take (n - 0) ns)) → n ≡ min (length ns) most → length ms ≡ n
-  part_size n ns ms e m =
-      let a = length_views (take (n - 0) ns) in
-      let b : n - 0 ≤ length ns = omega arith in
-      let c = length-take-le (n - 0) ns b in
-      omega arith
+  pub part_size : (n : ℕ) (ns : List (Node T)) → n ≡ min (length ns) most → length (views (take n ns)) ≡ n
+  part_size n ns m = let l : n ≤ length ns = omega arith in length_views (take n ns) ∙ length-take-le n ns l
 
-  pub part_element : (n k : ℕ) (ns : List (Node T)) (j : ℕ) → k ≡ n → element_of (views (take (n - 0) ns)) j ≡ element_of (take k (views ns)) j
-  part_element n k ns j e =
-      let z : n - 0 ≡ k = omega arith in
-      ap (λ (l : List (View T)). element_of l j) (ap (λ (m : ℕ). views (take m ns)) z ∙ sym (take-map view_of k ns))
+  pub part_element : (n k : ℕ) (ns : List (Node T)) (j : ℕ) → k ≡ n → element_of (views (take n ns)) j ≡ element_of (take k (views ns)) j
+  part_element n k ns j e = ap (λ (l : List (View T)). element_of l j) (ap (λ (m : ℕ). views (take m ns)) (sym e) ∙ sym (take-map view_of k ns))
 
   -- a write of a node that says F of what stood there
   pub set_node : (F : View T → View T) (ns : List (Node T)) (i : ℕ) (m d : Node T) → view_of m ≡ F (view_of (get_or ns i d)) → views (set ns i m) ≡ edited F (views ns) i
@@ -130,37 +123,19 @@ module _ {T : Type 0} where
       ] in
       ap (λ (ys : List ℕ). x ∷ ys) (ap (λ (o : Option ℕ). walk ns (length xs) o) here ∙ walk_is ns xs (tail_apart x xs d) later)
 
-  -- the nodes stay as many
-  pub within_edited : (s t : State T) (f : View T → View T) (o q : Option ℕ) → t ≡ with_nodes s (edited_at f s.ns o) → Within q s → Within q t
-  within_edited s t f o q e w j h = let l : length t.ns ≡ length s.ns = ap (λ (u : State T). length u.ns) e ∙ length_edited_at f s.ns o in let k = w j h in omega arith
+  -- ---- a loop that takes node after node out
+  pub edited_more : (f : View T → View T) (vs : List (View T)) (k : ℕ) → k < length vs → edited f (map f (take k vs) ++ drop k vs) k ≡ map f (take (suc k) vs) ++ drop (suc k) vs
+  edited_more f [] k l = absurd (omega arith)
+  edited_more f (v ∷ vs) zero l = refl
+  edited_more f (v ∷ vs) (suc k) l = ap (λ (w : List (View T)). f v ∷ w) (edited_more f vs k (omega arith))
 
-  pub length_bridge : (s t : State T) (p q : Option ℕ) → t ≡ bridge_state s p q → length t.ns ≡ length s.ns
-  length_bridge s t p q e =
-      ap (λ (u : State T). length u.ns) e ∙ length_edited_at (prev_to p) (edited_at (next_to q) s.ns p) q ∙ length_edited_at (next_to q) s.ns p
+  -- a part of a node that is out, where all are
+  pub part_loose : {X : Type 0} (F : Option (View T) → X) (v : X) → F None ≡ v → ((n : View T) → F (Some (loose n)) ≡ v) → (ns : List (View T)) (j : ℕ) → F (slice_get (map loose ns) j) ≡ v
+  part_loose F v a b [] j = a
+  part_loose F v a b (n ∷ ns) zero = b n
+  part_loose F v a b (n ∷ ns) (suc j) = part_loose F v a b ns j
 
-  -- the last after a bridge is lent
-  pub tail_bridge : (s t : State T) (p q : Option ℕ) → t ≡ bridge_state s p q → Within p s → Within s.tail s → Within t.tail t
-  tail_bridge s t p q e a b j h =
-      let l = length_bridge s t p q e in
-      let k = go q (sym (ap (λ (u : State T). is u.tail j) e) ∙ h) in
-      omega arith
-    where
-      go : (o : Option ℕ) → is (pick o p s.tail) j ≡ true → j < length s.ns
-      go None z = a j z
-      go (Some i) z = b j z
-
-  -- ---- a loop that makes the nodes loose
-  pub loose_more : {X : Type 0} (F : Option (View T) → X) (v : X) → ((n : View T) → F (Some (loose n)) ≡ v) → (ns ms : List (View T)) (i : ℕ) → i < length ns → ms ≡ edited loose ns i → ((j : ℕ) → j < i → F (slice_get ns j) ≡ v) → (j : ℕ) → j < i + 1 → F (slice_get ms j) ≡ v
-  loose_more F v f ns ms i l e h j k =
-      ap (λ (m : List (View T)). F (slice_get m j)) e
-      ∙ part_set F loose v f ns (Some i) j (λ q. let r = eqb-true j i q in omega arith)
-      ∙ elim (cases_eq j i) [
-        | inl q ↦ let r : eqb j i ≡ true = grind (arith, nat_tests) in rw r
-        | inr d ↦ let r : eqb j i ≡ false = grind (arith, nat_tests) in rw r (h j (omega arith))
-      ]
-
-  pub loose_kept : {X : Type 0} (F : Option (View T) → X) → ((n : View T) → F (Some (loose n)) ≡ F (Some n)) → (ns ms : List (View T)) (i : ℕ) → ms ≡ edited loose ns i → (j : ℕ) → F (slice_get ms j) ≡ F (slice_get ns j)
-  loose_kept F f ns ms i e j = ap (λ (m : List (View T)). F (slice_get m j)) e ∙ part_same F loose f ns (Some i) j
-
-  pub loose_all : {X : Type 0} (F : Option (View T) → X) (v : X) → F None ≡ v → (ns : List (View T)) (n : ℕ) → length ns ≤ n → ((j : ℕ) → j < n → F (slice_get ns j) ≡ v) → (j : ℕ) → F (slice_get ns j) ≡ v
-  loose_all F v z ns n l h j = elim (cases_lt j n) [ inl k ↦ h j k | inr k ↦ ap F (slice_get_past ns j (omega arith)) ∙ z ]
+  pub element_loose : (ns : List (View T)) (j : ℕ) → element_of (map loose ns) j ≡ element_of ns j
+  element_loose [] j = refl
+  element_loose (n ∷ ns) zero = refl
+  element_loose (n ∷ ns) (suc j) = element_loose ns j

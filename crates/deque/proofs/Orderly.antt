@@ -4,7 +4,7 @@ use Rattle.std.proofs.lemmas.List.{append-nil}
 use Rattle.std.proofs.lemmas.Bool.Decides.{nat_tests}
 use Rattle.std.proofs.lemmas.Bool.{cases_Bool, eqb-true}
 use Rattle.links.specs.Places.{has, last_from, last, distinct}
-use Rattle.deque.specs.Meaning.{places, dropped, found, replaced, entry, moved, free}
+use Rattle.deque.specs.Meaning.{places, dropped, front, rest, found, replaced, entry, moved, free}
 use Rattle.deque.specs.Laws.{Turn, push, pop, turned, put_in, handed_out, all_in, all_out, left, LastHasNoNext, MovesToBack, UnlinkThenPushMoves, FirstInFirstOut}
 use Rattle.links.proofs.Orders.{head_apart, tail_apart, last_later, after_last, eqb_same, both_ways}
 
@@ -53,8 +53,9 @@ module _ {T : Type 0} where
     | inr t ↦ let a : found i ps ≡ Some x = rw t at e in rw t (entry_found i x ps a)
   ]
 
-  pub dropped_front : (ps qs : List (ℕ × T)) (i : ℕ) (x : T) → ps ≡ (i, x) ∷ qs → dropped i ps ≡ qs
-  dropped_front ps qs i x e = ap (dropped i) e ∙ (let r = eqb_same i in rw r)
+  pub front_dropped : (ps : List (ℕ × T)) (i : ℕ) (x : T) → Some (i, x) ≡ front ps → dropped i ps ≡ rest ps
+  front_dropped [] i x e = refl
+  front_dropped (p ∷ ps) i x e = let q : (i, x) ≡ p = cc in let r = eqb_same i in let t : eqb i p.0 ≡ true = ap (λ (o : ℕ × T). eqb i o.0) (sym q) ∙ r in rw t
 
   -- ---- unlink, then push
   pub unlink_then_push : (ps : List (ℕ × T)) → UnlinkThenPushMoves ps

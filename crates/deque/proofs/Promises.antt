@@ -7,8 +7,8 @@ use Rattle.deque.specs.declared.refusal.Refusal.{Refusal}
 use Rattle.deque.specs.declared.refusal.Refusal.TheVariants.{NotLinked}
 use Rattle.links.specs.Places.{has, after, distinct}
 use Rattle.links.specs.Links.{most}
-use Rattle.deque.specs.Chain.{state, Lies}
-use Rattle.deque.specs.Meaning.{items, nodes, lent, value_at, places, dropped, moved, replaced, found, by_ok, when_linked, when_pushed, next_answer}
+use Rattle.deque.specs.Chain.{Lies}
+use Rattle.deque.specs.Meaning.{state, items, nodes, lent, value_at, places, dropped, moved, replaced, found, by_ok, when_linked, when_pushed, next_answer}
 use Rattle.deque.specs.Laws.{EachOnce, MovesToBack, LastHasNoNext}
 use Rattle.links.proofs.Orders.{after_none}
 use Rattle.deque.proofs.Soundness.{out}
@@ -29,7 +29,7 @@ module _ {T : Type 0} where
   -- ---- what holds of the items
   -- no node stands twice, and every linked node is lent
   pub once : (d : Deque T) → EachOnce (lent d) (items d)
-  once d = outcomes.once (state d.chain) d.kept
+  once d = outcomes.once (state d) d.kept
 
   pub apart : (d : Deque T) → distinct (places (items d)) ≡ true
   apart d = (once d).apart
@@ -39,15 +39,15 @@ module _ {T : Type 0} where
 
   -- no more nodes are lent than a link can name
   pub small : (d : Deque T) → lent d ≤ most
-  small d = (out (state d.chain) d.kept).small
+  small d = (out (state d) d.kept).small
 
   -- how the links lie, of nodes that are out too
   pub links_lie : (d : Deque T) → Lies (nodes d) (places (items d))
-  links_lie d = items_of.lies_is (state d.chain) (out (state d.chain) d.kept)
+  links_lie d = items_of.lies_is (state d) (out (state d) d.kept)
 
   -- a linked node's element is the one that lies in it
   pub found_value : (d : Deque T) (i : ℕ) → has (places (items d)) i ≡ true → found i (items d) ≡ value_at d i
-  found_value d i e = let s = state d.chain in items_of.found_value s (out s d.kept) i e
+  found_value d i e = let s = state d in items_of.found_value s (out s d.kept) i e
 
   pub moves : (d : Deque T) → MovesToBack (items d)
   moves d = orderly.moves_to_back (items d) (apart d)

@@ -1,5 +1,5 @@
 -- Whether the links lie as an order says: after a push, a removal, a move, a replaced element, and where all are out.
-use Rattle.std.proofs.Common.{◌≡◌, ℕ, suc, ◌+◌, ◌-◌, ◌<◌, ◌≤◌, Bool, true, false, cond, eqb, List, [], ◌∷◌, ◌++◌, length, Some, None, Option, sym, refl, ap, ◌∙◌, subst, subst₂, inl, inr, arith}
+use Rattle.std.proofs.Common.{◌≡◌, ℕ, suc, ◌+◌, ◌<◌, ◌≤◌, Bool, true, false, cond, eqb, List, [], ◌∷◌, ◌++◌, length, Some, None, Option, sym, refl, ap, ◌∙◌, subst, subst₂, inl, inr, arith}
 use mathlib.Core.Logic.{∥∥₁_elim}
 use native.Mathlib.Bridge.{le_prop}
 use base.Stored.{Coded-set, coded_ℕ, coded_bool}
@@ -10,7 +10,7 @@ use Rattle.links.specs.Places.{is, pick, last, has, after, before, without}
 use Rattle.links.specs.Links.{most}
 use Rattle.deque.specs.Views.{View, next_in, prev_in, linked_in, linked_of, linked_count}
 use Rattle.deque.specs.Chain.{walk, State, order, Lies, Sound, Within}
-use Rattle.deque.specs.Edits.{edited, edited_at, next_to, prev_to, element_to, loose, fresh, push_state, cut_state, move_state, unlink_state, set_state}
+use Rattle.deque.specs.Edits.{edited, edited_at, next_to, prev_to, element_to, loose, fresh, push_state, cut_state, unlink_state, set_state}
 use Rattle.links.proofs.Orders
 use Rattle.links.proofs.Orders.{option_set, both_ways}
 use Rattle.deque.proofs.Memory
@@ -190,19 +190,6 @@ module _ {T : Type 0} where
   pub unlink_sound : (s : State T) (xs : List ℕ) → Sound s xs → (i : ℕ) → has xs i ≡ true → Sound (unlink_state s i) (without i xs)
   unlink_sound s xs h i e =
       subst₂ (λ (p q : Option ℕ). Sound (cut_state s i p q) (without i xs)) (sym (h.lies.prevs i)) (sym (h.lies.nexts i)) (cut_sound s xs h i e)
-
-  -- ---- a move is a removal and a push
-  pub move_is : (s : State T) (i : ℕ) (p q : Option ℕ) (x : T) → 0 < s.len → move_state s i p q x ≡ push_state (cut_state s i p q) i x
-  move_is s i p q x l =
-      let e = Memory.edited_over (fresh (pick q p s.tail) x) loose (λ n. refl) (cut₂ s p q) i in
-      let n : s.len ≡ s.len - 1 + 1 = omega arith in
-      λ k. record {
-        ns = edited_at (next_to (Some i)) (sym e k) (pick q p s.tail);
-        head = pick (pick q p s.tail) (Some i) (pick p q s.head);
-        tail = Some i;
-        len = n k;
-        lender = s.lender;
-      }
 
   -- ---- an element replaced
   pub set_sound : (s : State T) (xs : List ℕ) → Sound s xs → (i : ℕ) (x : T) → Sound (set_state s i x) xs

@@ -1,22 +1,22 @@
 -- Nodes that are linked in an order: the state, its order, what it means, and how its links lie.
 use Rattle.std.specs.Prelude.{◌≡◌, ℕ, zero, suc, ◌<◌, ◌≤◌, true, List, [], ◌∷◌, length, Some, None, Option}
 use Rattle.std.specs.List.{flat_map}
-use Rattle.deque.specs.declared.chain.Chain.{Chain}
+use Rattle.deque.specs.declared.node.Node.{Node}
+use Rattle.links.specs.declared.Link.{Link}
 use Rattle.links.specs.Places.{is, first, last, has, after, before, distinct}
 use Rattle.links.specs.Links.{goes_to, most}
 use Rattle.deque.specs.Views.{View, views, next_of, prev_of, linked_of, element_of, linked_count}
 
--- the lent nodes, the ends of the order, how many are linked, and whose nodes these are
+-- the lent nodes, the ends of the order, and how many are linked
 pub record State (T : Type 0) : Type 0 where
   pub ns : List (View T)
   pub head : Option ℕ
   pub tail : Option ℕ
   pub len : ℕ
-  pub lender : ℕ
 
 -- what the memory says
-abbrev pub state : {T : Type 0} → Chain T → State T
-state c = record { ns = views c.nodes.now; head = goes_to c.head; tail = goes_to c.tail; len = c.len; lender = c.nodes.ghost_name }
+abbrev pub said : {T : Type 0} → List (Node T) → Link → Link → ℕ → State T
+said ns h t n = record { ns = views ns; head = goes_to h; tail = goes_to t; len = n }
 
 -- o is the number of a lent node, if it is one at all
 abbrev pub Within : {T : Type 0} → Option ℕ → State T → Type 0
@@ -63,19 +63,5 @@ pub record Sound {T : Type 0} (s : State T) (xs : List ℕ) : Type 0 where
   pub small : length s.ns ≤ most
 
 -- what holds of every queue
-abbrev pub Kept : {T : Type 0} → Chain T → Type 0
-Kept c = ∥ Sound (state c) (order (state c)) ∥₁
-
--- all nodes are out, with their elements as they were
-pub record Cleared {T : Type 0} (ns ms : List (View T)) : Type 0 where
-  pub lies : Lies ms []
-  pub elements : (j : ℕ) → element_of ms j ≡ element_of ns j
-  pub size : length ms ≡ length ns
-
--- the order is empty and all nodes are out
-pub record Emptied {T : Type 0} (s t : State T) : Type 0 where
-  pub nodes : Cleared s.ns t.ns
-  pub starts : t.head ≡ None
-  pub ends : t.tail ≡ None
-  pub counts : t.len ≡ 0
-  pub owner : t.lender ≡ s.lender
+abbrev pub Kept : {T : Type 0} → List (Node T) → Link → Link → ℕ → Type 0
+Kept ns h t n = ∥ Sound (said ns h t n) (order (said ns h t n)) ∥₁

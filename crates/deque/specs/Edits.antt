@@ -37,11 +37,11 @@ fresh p x n = record { next = None; prev = p; linked = true; element = x }
 
 -- the same ends and count, over the nodes ns
 abbrev pub with_nodes : {T : Type 0} → State T → List (View T) → State T
-with_nodes s ns = record { ns = ns; head = s.head; tail = s.tail; len = s.len; lender = s.lender }
+with_nodes s ns = record { ns = ns; head = s.head; tail = s.tail; len = s.len }
 
 -- the same nodes and ends, with the count n
 abbrev pub with_len : {T : Type 0} → State T → ℕ → State T
-with_len s n = record { ns = s.ns; head = s.head; tail = s.tail; len = n; lender = s.lender }
+with_len s n = record { ns = s.ns; head = s.head; tail = s.tail; len = n }
 
 -- p and q side by side
 abbrev pub bridge_state : {T : Type 0} → State T → Option ℕ → Option ℕ → State T
@@ -51,7 +51,6 @@ bridge_state s p q =
       head = pick p q s.head;
       tail = pick q p s.tail;
       len = s.len;
-      lender = s.lender;
     }
 
 -- node i as the last, not counted
@@ -62,7 +61,6 @@ attach_state s i x =
       head = pick s.tail (Some i) s.head;
       tail = Some i;
       len = s.len;
-      lender = s.lender;
     }
 
 -- node i with the element x, behind all others
@@ -72,10 +70,6 @@ push_state s i x = with_len (attach_state s i x) (s.len + 1)
 -- node i out, where p stands before it and q after it
 abbrev pub cut_state : {T : Type 0} → State T → ℕ → Option ℕ → Option ℕ → State T
 cut_state s i p q = with_len (with_nodes (bridge_state s p q) (edited loose (bridge_state s p q).ns i)) (s.len - 1)
-
--- node i, where p stands before it and q after it, behind all others
-abbrev pub move_state : {T : Type 0} → State T → ℕ → Option ℕ → Option ℕ → T → State T
-move_state s i p q x = attach_state (bridge_state s p q) i x
 
 -- node i out, where its links say what stands around it
 abbrev pub unlink_state : {T : Type 0} → State T → ℕ → State T

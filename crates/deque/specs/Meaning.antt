@@ -1,19 +1,26 @@
 -- What a queue holds, and what each call answers and makes of it.
-use Rattle.std.specs.Prelude.{◌≡◌, ℕ, Bool, false, cond, not, List, [], ◌∷◌, ◌++◌, map, length, Some, None, Ok, Err, Option, Result, ◌==◌, nat_lt}
+use Rattle.std.specs.Prelude.{◌≡◌, ℕ, ◌<◌, Bool, false, cond, not, true, List, [], ◌∷◌, ◌++◌, map, length, Some, None, Ok, Err, Option, Result, ◌==◌, nat_lt}
 use Rattle.deque.specs.declared.Deque.{Deque}
 use Rattle.deque.specs.declared.refusal.Refusal.{Refusal}
 use Rattle.deque.specs.declared.refusal.Refusal.TheVariants.{NotLinked, NotFree}
 use Rattle.links.specs.Places.{has, after}
-use Rattle.deque.specs.Views.{View, element_of}
-use Rattle.deque.specs.Chain.{state, meaning}
+use Rattle.links.specs.Links.{goes_to}
+use Rattle.std.specs.List.{slice_get}
+use Rattle.deque.specs.declared.node.Node.{Node}
+use Rattle.deque.specs.Views.{View, view_of, element_of}
+use Rattle.deque.specs.Chain.{State, said, meaning}
+
+-- what the memory says
+abbrev pub state : {T : Type 0} → Deque T → State T
+state d = said d.nodes.now d.head d.tail d.len
 
 -- the linked nodes with their elements, front first
 abbrev pub items : {T : Type 0} → Deque T → List (ℕ × T)
-items d = meaning (state d.chain)
+items d = meaning (state d)
 
 -- the lent nodes as they lie
 abbrev pub nodes : {T : Type 0} → Deque T → List (View T)
-nodes d = (state d.chain).ns
+nodes d = (state d).ns
 
 -- how many nodes are lent
 abbrev pub lent : {T : Type 0} → Deque T → ℕ
@@ -25,7 +32,7 @@ value_at d j = element_of (nodes d) j
 
 -- whose nodes these are
 abbrev pub lender : {T : Type 0} → Deque T → ℕ
-lender d = (state d.chain).lender
+lender d = d.nodes.ghost_name
 
 -- ---- on items
 -- the node numbers, front first
@@ -104,4 +111,25 @@ at_place i x j v = cond (j == i) (Some x) v
 -- where the call was refused, the memory is as it was: every node and both ends
 abbrev pub Untouched : {T : Type 0} → Result (Unit {0}) Refusal → Deque T → Deque T → Type 0
 Untouched (Ok u) d e = Unit {0}
-Untouched (Err r) d e = e.chain ≡ d.chain
+Untouched (Err r) d e = e ≡ d
+
+-- ---- of one node
+-- node i is linked, and lies as n; what its links name is lent too
+pub record Linked {T : Type 0} (d : Deque T) (i : ℕ) (n : Node T) : Type 0 where
+  pub lies : slice_get (nodes d) i ≡ Some (view_of n)
+  pub among : has (places (items d)) i ≡ true
+  pub here : i < length d.nodes.now
+  pub before : (j : ℕ) → Some j ≡ goes_to n.prev → j < length d.nodes.now
+  pub behind : (j : ℕ) → Some j ≡ goes_to n.next → j < length d.nodes.now
+
+-- node i is refused as not linked
+pub record Unlinked {T : Type 0} (d : Deque T) (i : ℕ) (e : Refusal) : Type 0 where
+  pub refusal : e ≡ NotLinked
+  pub absent : has (places (items d)) i ≡ false
+
+-- e is over the same nodes as d, with the items ps and the elements vs
+pub record Becomes {T : Type 0} (d e : Deque T) (ps : List (ℕ × T)) (vs : ℕ → Option T) : Type 0 where
+  pub order : items e ≡ ps
+  pub size : lent e ≡ lent d
+  pub owner : lender e ≡ lender d
+  pub values : (j : ℕ) → value_at e j ≡ vs j

@@ -1,15 +1,15 @@
 //! The calls.
-ghost use Rattle.std.specs.Prelude.{◌≡◌, ℕ, min, false, [], length, take, if◌then◌else◌, Some, None};
+ghost use Rattle.std.specs.Prelude.{◌≡◌, ℕ, min, true, false, [], length, map, take, if◌then◌else◌, Some, None, MatchResult};
 ghost use Rattle.links.specs.Places.{has, last};
 ghost use Rattle.links.specs.Links.{most};
 ghost use Rattle.deque.specs.Views.{views, element_of};
 ghost use Rattle.deque.specs.Chain.{Lies};
+ghost use Rattle.deque.specs.Edits.{loose};
 ghost use Rattle.deque.specs.Refusals.{refused_by};
-ghost use Rattle.deque.specs.Meaning.{items, nodes, lender, lent, value_at, places, pushed, dropped, front, rest, found, replaced, moved, free, by_ok, when_pushed, when_linked, next_answer, found_answer, at_place, Untouched};
+ghost use Rattle.deque.specs.Meaning.{items, nodes, lender, lent, value_at, places, pushed, dropped, front, rest, found, replaced, moved, free, by_ok, when_pushed, when_linked, next_answer, found_answer, at_place, Untouched, Linked, Unlinked, Becomes};
 ghost use Rattle.deque.specs.Laws.{EachOnce, LastHasNoNext, MovesToBack, UnlinkThenPushMoves, FirstInFirstOut};
 
 use crate::Deque;
-use crate::chain::{Chain, take_out_all};
 use crate::node::Node;
 use crate::refusal::Refusal;
 use links::Link;
@@ -22,15 +22,13 @@ impl<'n, T: Copy> Deque<'n, T> {
         ensures values { (j : ℕ) → value_at result j ≡ element_of (take (lent result) (views nodes.old)) j }
     {
         let n = nodes.len().min(Link::MOST);
-        let lent = &mut nodes[0..n];
+        let lent = &mut nodes[..n];
         take_out_all(lent);
         Deque {
-            chain: Chain {
-                nodes: lent,
-                head: Link::none(),
-                tail: Link::none(),
-                len: 0,
-            },
+            nodes: lent,
+            head: Link::none(),
+            tail: Link::none(),
+            len: 0,
         }
     }
 
@@ -41,7 +39,10 @@ impl<'n, T: Copy> Deque<'n, T> {
         ensures owner { lender self.new ≡ lender self.old }
         ensures values { (j : ℕ) → value_at self.new j ≡ value_at self.old j }
     {
-        self.chain.clear();
+        take_out_all(self.nodes);
+        self.head = Link::none();
+        self.tail = Link::none();
+        self.len = 0;
     }
 
     /// Links node i, with the element x, behind all others. Refused (9) where it is not lent or already linked.
@@ -54,17 +55,15 @@ impl<'n, T: Copy> Deque<'n, T> {
         ensures values { (j : ℕ) → value_at self.new j ≡ by_ok result (at_place i x j (value_at self.old j)) (value_at self.old j) }
         ensures refused { Untouched result self.old self.new }
     {
-        if i >= self.chain.nodes_lent() {
+        if i >= self.nodes_lent() || self.contains(i) {
             return Err(Refusal::NotFree);
         }
-        if self.chain.is_linked(i) {
-            return Err(Refusal::NotFree);
-        }
-        self.chain.push(i, x);
+        self.link(i, x);
         Ok(())
     }
 
     /// Takes the front out, and hands out its number and its element.
+    #[tactic(auto, using(crate::proofs::Outcomes::head_here, crate::proofs::Orderly::first_in_first_out))]
     pub fn pop_front(&mut self) -> Option<(usize, T)>
         ensures answer { result ≡ front (items self.old) }
         ensures order { items self.new ≡ rest (items self.old) }
@@ -73,27 +72,23 @@ impl<'n, T: Copy> Deque<'n, T> {
         ensures values { (j : ℕ) → value_at self.new j ≡ value_at self.old j }
         ensures runs { FirstInFirstOut (lent self.old) (items self.old) }
     {
-        match self.chain.head.target() {
-            None => None,
-            Some(i) => {
-                let n = self.chain.node(i);
-                self.chain.cut(i, n.prev, n.next);
-                Some((i, n.element))
-            }
-        }
+        let i = self.head.target()?;
+        let n = self.nodes[i];
+        self.cut(i, n);
+        Some((i, n.element))
     }
 
     /// The front's number and element.
+    #[tactic(auto, using(crate::proofs::Outcomes::head_here))]
     pub fn peek_front(&self) -> Option<(usize, T)>
         ensures { result ≡ front (items self.now) }
     {
-        match self.chain.head.target() {
-            None => None,
-            Some(i) => Some((i, self.chain.node(i).element)),
-        }
+        let i = self.head.target()?;
+        Some((i, self.nodes[i].element))
     }
 
     /// Moves node i behind all others; where it is the last, nothing is written. Refused (8) where it is not linked.
+    #[tactic(auto, using(crate::proofs::Promises::moves))]
     pub fn move_to_back(&mut self, i: usize) -> Result<(), Refusal>
         ensures answer { result ≡ when_linked self.old i }
         ensures number { refused_by result ≡ (if has (places (items self.old)) i then None else Some 8) }
@@ -101,22 +96,21 @@ impl<'n, T: Copy> Deque<'n, T> {
         ensures size { lent self.new ≡ lent self.old }
         ensures owner { lender self.new ≡ lender self.old }
         ensures values { (j : ℕ) → value_at self.new j ≡ value_at self.old j }
-        ensures stays { last (places (items self.old)) ≡ Some i → self.new.chain ≡ self.old.chain }
+        ensures stays { last (places (items self.old)) ≡ Some i → self.new ≡ self.old }
         ensures refused { Untouched result self.old self.new }
         ensures moves { MovesToBack (items self.old) }
     {
-        if !self.chain.is_linked(i) {
-            return Err(Refusal::NotLinked);
-        }
-        if self.chain.is_last(i) {
+        let moved = self.linked(i)?;
+        if self.tail.target() == Some(i) {
             return Ok(());
         }
-        let n = self.chain.node(i);
-        self.chain.send_back(i, n.prev, n.next, n.element);
+        self.cut(i, moved);
+        self.link(i, moved.element);
         Ok(())
     }
 
     /// Takes node i out; its element stays. Refused (8) where it is not linked.
+    #[tactic(auto, using(crate::proofs::Orderly::unlink_then_push))]
     pub fn unlink(&mut self, i: usize) -> Result<(), Refusal>
         ensures answer { result ≡ when_linked self.old i }
         ensures number { refused_by result ≡ (if has (places (items self.old)) i then None else Some 8) }
@@ -128,57 +122,51 @@ impl<'n, T: Copy> Deque<'n, T> {
         ensures refused { Untouched result self.old self.new }
         ensures again { UnlinkThenPushMoves (items self.old) }
     {
-        if !self.chain.is_linked(i) {
-            return Err(Refusal::NotLinked);
-        }
-        let n = self.chain.node(i);
-        self.chain.cut(i, n.prev, n.next);
+        let n = self.linked(i)?;
+        self.cut(i, n);
         Ok(())
     }
 
     /// The node behind node i, none where it is the last. Refused (8) where it is not linked.
+    #[tactic(auto, using(crate::proofs::Promises::last_ends, crate::proofs::Outcomes::next_told))]
     pub fn next(&self, i: usize) -> Result<Option<usize>, Refusal>
         ensures answer { result ≡ next_answer self.now i }
         ensures number { refused_by result ≡ (if has (places (items self.now)) i then None else Some 8) }
         ensures end { LastHasNoNext (items self.now) }
     {
-        if !self.chain.is_linked(i) {
-            return Err(Refusal::NotLinked);
-        }
-        Ok(self.chain.node(i).next.target())
+        Ok(self.linked(i)?.next.target())
     }
 
     /// Whether node i is linked.
+    #[tactic(auto, using(crate::proofs::Promises::once))]
     pub fn contains(&self, i: usize) -> bool
         ensures answer { result ≡ has (places (items self.now)) i }
         ensures once { EachOnce (lent self.now) (items self.now) }
     {
-        self.chain.is_linked(i)
+        self.linked(i).is_ok()
     }
 
     /// How many nodes are linked.
     pub fn len(&self) -> usize
         ensures { result ≡ length (items self.now) }
     {
-        self.chain.len
+        self.len
     }
 
     /// How many nodes are lent.
     pub fn nodes_lent(&self) -> usize
         ensures { result ≡ lent self.now }
     {
-        self.chain.nodes_lent()
+        self.nodes.len()
     }
 
     /// The element of node i. Refused (8) where it is not linked.
+    #[tactic(auto, using(crate::proofs::Orderly::found_absent, crate::proofs::Outcomes::element_told))]
     pub fn get(&self, i: usize) -> Result<T, Refusal>
         ensures answer { result ≡ found_answer (found i (items self.now)) }
         ensures number { refused_by result ≡ (if has (places (items self.now)) i then None else Some 8) }
     {
-        if !self.chain.is_linked(i) {
-            return Err(Refusal::NotLinked);
-        }
-        Ok(self.chain.node(i).element)
+        Ok(self.linked(i)?.element)
     }
 
     /// Replaces the element of node i by x. Refused (8) where it is not linked.
@@ -191,10 +179,8 @@ impl<'n, T: Copy> Deque<'n, T> {
         ensures values { (j : ℕ) → value_at self.new j ≡ by_ok result (at_place i x j (value_at self.old j)) (value_at self.old j) }
         ensures refused { Untouched result self.old self.new }
     {
-        if !self.chain.is_linked(i) {
-            return Err(Refusal::NotLinked);
-        }
-        self.chain.put_element(i, x);
+        self.linked(i)?;
+        self.nodes[i].element = x;
         Ok(())
     }
 
@@ -204,13 +190,71 @@ impl<'n, T: Copy> Deque<'n, T> {
         ensures owner { result.ghost_name ≡ lender self.entry }
         ensures links { ∥ Lies (views result.now) (places (items self.entry)) ∥₁ }
     {
-        let Deque { chain } = self;
-        let Chain {
+        let Deque {
             nodes: handed,
             head: _,
             tail: _,
             len: _,
-        } = chain;
+        } = self;
         handed
+    }
+
+    /// Node i as it lies. Refused where it is not linked.
+    fn linked(&self, i: usize) -> Result<Node<T>, Refusal>
+        ensures { MatchResult result (Linked self.now i) (Unlinked self.now i) }
+    {
+        match self.nodes.get(i) {
+            Some(n) if n.linked => Ok(*n),
+            _ => Err(Refusal::NotLinked),
+        }
+    }
+
+    /// Puts node i, with the element x, behind all others.
+    #[tactic(auto, using(crate::proofs::Outcomes::last_here))]
+    fn link(&mut self, i: usize, x: T)
+        requires { free (lent self.old) (items self.old) i ≡ true }
+        ensures { Becomes self.old self.new (pushed (items self.old) i x) (λ j. at_place i x j (value_at self.old j)) }
+    {
+        let link = Link::to(i);
+        let nodes = &mut *self.nodes;
+        nodes[i] = Node {
+            next: Link::none(),
+            prev: self.tail,
+            linked: true,
+            element: x,
+        };
+        match self.tail.target() {
+            Some(last) => nodes[last].next = link,
+            None => self.head = link,
+        }
+        self.tail = link;
+        self.len += 1;
+    }
+
+    /// Takes node i, which says n, out.
+    fn cut(&mut self, i: usize, n: Node<T>)
+        requires { Linked self.old i n }
+        ensures { Becomes self.old self.new (dropped i (items self.old)) (value_at self.old) }
+    {
+        let nodes = &mut *self.nodes;
+        match n.prev.target() {
+            Some(before) => nodes[before].next = n.next,
+            None => self.head = n.next,
+        }
+        match n.next.target() {
+            Some(behind) => nodes[behind].prev = n.prev,
+            None => self.tail = n.prev,
+        }
+        nodes[i] = Node::new(nodes[i].element);
+        self.len -= 1;
+    }
+}
+
+/// Takes every node out, with its element as it was.
+fn take_out_all<T: Copy>(nodes: &mut [Node<T>])
+    ensures { views nodes.new ≡ map loose (views nodes.old) }
+{
+    for node in nodes.iter_mut() {
+        *node = Node::new(node.element);
     }
 }

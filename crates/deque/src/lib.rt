@@ -15,15 +15,18 @@
 ghost use Rattle.deque.specs.Chain.{Kept};
 
 mod calls;
-mod chain;
 pub mod node;
 pub mod refusal;
 
-use chain::Chain;
+use links::Link;
+use node::Node;
 
-/// A queue over lent nodes, whose links lie as its order says.
+/// A queue over lent nodes, with the first and the last of its order and how many are linked; the links lie as the order says.
 #[derive(Drop)]
 pub struct Deque<'n, T> {
-    chain: Chain<'n, T>,
-    ghost kept: { Kept chain },
+    nodes: &'n mut [Node<T>],
+    head: Link,
+    tail: Link,
+    len: usize,
+    ghost kept: { Kept nodes.now head tail len },
 }
