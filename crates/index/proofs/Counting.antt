@@ -1,10 +1,11 @@
 -- How many cells are held, before and after a call.
-use Rattle.std.proofs.Common.{◌≡◌, ℕ, ◌+◌, ◌<◌, true, cond, eqb, ltb, length, is_some, Some, None, Option, sym, refl, ap, arith}
+use Rattle.std.proofs.Common.{◌≡◌, ℕ, ◌+◌, ◌<◌, true, cond, eqb, ltb, List, length, is_some, Some, None, Option, sym, refl, ap, ◌∙◌, arith}
 use Rattle.std.proofs.lemmas.Bool.{lt-ltb, le-ltb}
+use Rattle.table.specs.declared.cell.Cell.{Cell}
 use Rattle.table.specs.declared.cell.Entry.{Entry}
 use Rattle.links.specs.Places.{count}
-use Rattle.table.specs.Chain.{State, capacity, entry_at, live, Sound}
-use Rattle.table.specs.Calls.{Took}
+use Rattle.table.specs.Chain.{State, capacity_of, capacity, entry_at, live, Sound}
+use Rattle.table.specs.Calls.{Took, Emptied}
 use Rattle.links.proofs.Orders
 use Rattle.table.proofs.Soundness as sound
 
@@ -25,6 +26,10 @@ module _ {A B : Type 0} where
 
   pub same_capacity : (s t : State A B) → length t.cs ≡ length s.cs → length t.hs ≡ length s.hs → capacity t ≡ capacity s
   same_capacity s t p q = sound.capacity_same (length s.cs) (length s.hs) (length t.cs) (length t.hs) p q
+
+  -- as many cells can be held as before
+  pub emptied_capacity : (cs : List (Cell A B)) (n : ℕ) (t : State A B) → Emptied cs n t → capacity t ≡ capacity_of (length cs) n
+  emptied_capacity cs n t e = ap (λ (x : List (Cell A B)). capacity_of (length x) (length t.hs)) e.cells ∙ ap (capacity_of (length cs)) e.heads
 
   pub held_more : (s t : State A B) → Sound s → Sound t → (n : ℕ) → t.held ≡ s.held + n → count (live t) (capacity t) ≡ count (live s) (capacity s) + n
   held_more s t h k n e = let a = h.total in let b = k.total in omega arith

@@ -1,18 +1,23 @@
 -- The walk along the chain of a key's hash finds the held entry with that key, and it alone.
-use Rattle.std.proofs.Common.{◌≡◌, ℕ, ◌%◌, ◌<◌, Bool, true, false, eqb, ltb, length, Some, None, Option, sym, refl, ap, ◌∙◌, inl, inr, arith}
+use Rattle.std.proofs.Common.{◌≡◌, ℕ, ◌%◌, ◌<◌, Bool, true, cond, ltb, List, [], ◌∷◌, find, length, Some, None, Option, sym, refl, ap, ◌∙◌, inl, inr, arith}
 use Rattle.std.specs.List.{slice_get}
 use Rattle.std.proofs.lemmas.Option.{slice_get_past}
-use Rattle.std.proofs.lemmas.Bool.Decides.{nat_tests}
 use Rattle.std.proofs.lemmas.Bool.{cases_eq, cases_Bool}
 use Rattle.table.specs.declared.cell.Cell.{Cell}
 use Rattle.table.specs.declared.cell.Entry.{Entry}
 use Rattle.links.specs.Places.{is, has, seek}
-use Rattle.table.specs.Chain.{State, entry_in, link_of, spot, entry_at, head_in, head_at, first_of, key_in, key_of, walk, chain, Sound}
+use Rattle.table.specs.Chain.{State, entry_in, link_of, spot, entry_at, head_in, first_of, key_in, key_of, walk, chain, Sound}
+use Rattle.table.specs.Meaning.{chain_from}
 use Rattle.links.proofs.Orders
 use Rattle.table.proofs.Chains
 use Rattle.table.proofs.Soundness as sound
 use Rattle.table.proofs.Outcomes as outcomes
 use Rattle.index.specs.Lawful.{hit, Lawful}
+
+-- the library's search of a list is the one that the orders speak of
+pub seek_is : (f : ℕ → Bool) (xs : List ℕ) → find f xs ≡ seek f xs
+seek_is f [] = refl
+seek_is f (x ∷ xs) = ap (cond (f x) (Some x)) (seek_is f xs)
 
 module _ {A B : Type 0} where
   none_some : {X : Type 0} (x : Option (Entry A B)) (e : Entry A B) → x ≡ None → x ≡ Some e → X
@@ -80,16 +85,9 @@ module _ {A B : Type 0} where
           let z : g.0 ≡ j = w.single g.0 j d.0 e d.1.0 f.1.0 (trans d.0.key k e.key d.1.1 (symm e.key k f.1.1)) in
           Orders.is_some (g.1 ∙ ap (λ (x : ℕ). Some x) z)
 
-  -- what the search says of its answer
+  -- what the walk says of its answer
   abbrev pub Walked : (A → A → Bool) → (A → ℕ) → State A B → A → Option ℕ → Type 0
-  Walked alike hashed s k r = r ≡ seek (key_of alike s.cs k) (walk (link_of s.cs) (length s.cs) (first_of s (hashed k)))
-
-  chain_head : (s : State A B) (h : ℕ) → 0 < length s.hs → walk (link_of s.cs) (length s.cs) (first_of s h) ≡ chain s (h % length s.hs)
-  chain_head s h n =
-      let l = sound.mod_below h (length s.hs) n in
-      let z : eqb (h % length s.hs) (length s.hs) ≡ false = grind (arith, nat_tests) in
-      let q : head_at s (h % length s.hs) ≡ first_of s h = rw z in
-      ap (walk (link_of s.cs) (length s.cs)) (sym q)
+  Walked alike hashed s k r = r ≡ seek (key_of alike s.cs k) (chain_from s (hashed k))
 
   -- without a head nothing is held, and nothing is found
   no_entry : (s : State A B) → Sound s → length s.hs ≡ 0 → (j : ℕ) → entry_at s j ≡ None
@@ -112,7 +110,7 @@ module _ {A B : Type 0} where
         | inl z ↦ let y : None ≡ Some i = sym (no_walk alike hashed s k r z w) ∙ e in let x : ◌≡◌ {A = ℕ} 0 1 = cc in absurd (omega arith)
         | inr n ↦
             let l : 0 < length s.hs = omega arith in
-            let q = w ∙ ap (seek (key_of alike s.cs k)) (chain_head s (hashed k) l) in
+            let q = w ∙ ap (seek (key_of alike s.cs k)) (outcomes.chain_of s (hashed k) l) in
             found_hit alike s h k (hashed k % length s.hs) (sound.mod_below (hashed k) (length s.hs) l) i (Orders.is_some (sym q ∙ e))
       ]
 
@@ -126,6 +124,6 @@ module _ {A B : Type 0} where
         | inl z ↦ ap (λ (o : Option (Entry A B)). hit alike o k) (no_entry s h z j) ∙ sym (ap (λ (o : Option ℕ). is o j) (no_walk alike hashed s k r z a))
         | inr n ↦
             let l : 0 < length s.hs = omega arith in
-            let q = a ∙ ap (seek (key_of alike s.cs k)) (chain_head s (hashed k) l) in
+            let q = a ∙ ap (seek (key_of alike s.cs k)) (outcomes.chain_of s (hashed k) l) in
             found_is alike hashed weighs symm trans hashes s h l w k j ∙ sym (ap (λ (o : Option ℕ). is o j) q)
       ]

@@ -1,6 +1,7 @@
 -- A map from cells to entries stays lawful when one is taken in, given up or replaced.
 use Rattle.std.proofs.Common.{◌≡◌, ℕ, Bool, true, false, cond, eqb, Some, None, Option, sym, refl, ap, ◌∙◌, inl, inr, arith}
 use Rattle.std.proofs.lemmas.Bool.{cases_Bool, eqb-true}
+use Rattle.table.specs.declared.cell.Content.{Content}
 use Rattle.table.specs.declared.cell.Entry.{Entry}
 use Rattle.links.specs.Places.{is}
 use Rattle.table.specs.Edits.{anew}
@@ -44,32 +45,32 @@ module _ {A B : Type 0} (alike : A → A → Bool) (hashed : A → ℕ) (weighs 
         | inr t ↦ sym (h j ∙ rw t) ∙ q
       ]
 
-  anew_less : (v : B) (w a x : ℕ) (o : Option (Entry A B)) (e : Entry A B) → anew_in v w a x o ≡ Some e → (d : Entry A B) × ((o ≡ Some d) × ((d.key ≡ e.key) × (d.hash ≡ e.hash)))
-  anew_less v w a x None e q = none_some None e refl q
-  anew_less v w a x (Some d) e q = let r : anew v w a x d ≡ e = cc in (d, (refl, (ap (λ (y : Entry A B). y.key) r, ap (λ (y : Entry A B). y.hash) r)))
+  anew_less : (c : Content B) (o : Option (Entry A B)) (e : Entry A B) → anew_in c o ≡ Some e → (d : Entry A B) × ((o ≡ Some d) × ((d.key ≡ e.key) × (d.hash ≡ e.hash)))
+  anew_less c None e q = none_some None e refl q
+  anew_less c (Some d) e q = let r : anew c d ≡ e = cc in (d, (refl, (ap (λ (y : Entry A B). y.key) r, ap (λ (y : Entry A B). y.hash) r)))
 
-  anew_weighed : (v : B) (w a x : ℕ) (o : Option (Entry A B)) (e : Entry A B) → anew_in v w a x o ≡ Some e → ((d : Entry A B) → o ≡ Some d → w ≡ weighs d.key v) → e.weight ≡ weighs e.key e.value
-  anew_weighed v w a x None e q k = none_some None e refl q
-  anew_weighed v w a x (Some d) e q k =
-      let y : anew v w a x d ≡ e = cc in
+  anew_weighed : (c : Content B) (o : Option (Entry A B)) (e : Entry A B) → anew_in c o ≡ Some e → ((d : Entry A B) → o ≡ Some d → c.weight ≡ weighs d.key c.value) → e.weight ≡ weighs e.key e.value
+  anew_weighed c None e q k = none_some None e refl q
+  anew_weighed c (Some d) e q k =
+      let y : anew c d ≡ e = cc in
       ap (λ (u : Entry A B). u.weight) (sym y) ∙ k d refl ∙ ap (λ (u : Entry A B). weighs u.key u.value) y
 
   -- one replaced, with the weight of any key that is the same
   pub renew_lawful : ((k l : A) (v : B) → alike k l ≡ true → weighs k v ≡ weighs l v)
-      → (f g : ℕ → Option (Entry A B)) (i : ℕ) (v : B) (w a x : ℕ) → ((j : ℕ) → g j ≡ cond (eqb j i) (anew_in v w a x (f j)) (f j))
-      → (k : A) → hit alike (f i) k ≡ true → w ≡ weighs k v → Lawful alike hashed weighs f → Lawful alike hashed weighs g
-  renew_lawful law f g i v w a x h k t q l = less f g l
+      → (f g : ℕ → Option (Entry A B)) (i : ℕ) (c : Content B) → ((j : ℕ) → g j ≡ cond (eqb j i) (anew_in c (f j)) (f j))
+      → (k : A) → hit alike (f i) k ≡ true → c.weight ≡ weighs k c.value → Lawful alike hashed weighs f → Lawful alike hashed weighs g
+  renew_lawful law f g i c h k t q l = less f g l
       (λ j e p. elim (cases_Bool (eqb j i)) [
-        | inl z ↦ anew_less v w a x (f j) e (sym (h j ∙ rw z) ∙ p)
+        | inl z ↦ anew_less c (f j) e (sym (h j ∙ rw z) ∙ p)
         | inr z ↦ (e, (sym (h j ∙ rw z) ∙ p, (refl, refl)))
       ])
       (λ j e p. elim (cases_Bool (eqb j i)) [
-        | inl z ↦ anew_weighed v w a x (f j) e (sym (h j ∙ rw z) ∙ p) (λ d r. fits d (ap f (sym (eqb-true j i z)) ∙ r))
+        | inl z ↦ anew_weighed c (f j) e (sym (h j ∙ rw z) ∙ p) (λ d r. fits d (ap f (sym (eqb-true j i z)) ∙ r))
         | inr z ↦ l.weights j e (sym (h j ∙ rw z) ∙ p)
       ])
     where
-      fits : (d : Entry A B) → f i ≡ Some d → w ≡ weighs d.key v
-      fits d e = q ∙ sym (law d.key k v (sym (ap (λ (o : Option (Entry A B)). hit alike o k) e) ∙ t))
+      fits : (d : Entry A B) → f i ≡ Some d → c.weight ≡ weighs d.key c.value
+      fits d e = q ∙ sym (law d.key k c.value (sym (ap (λ (o : Option (Entry A B)). hit alike o k) e) ∙ t))
 
   -- one taken in, whose key no other has
   pub take_lawful : ((k l : A) → alike k l ≡ true → alike l k ≡ true)

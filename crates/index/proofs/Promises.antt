@@ -3,7 +3,8 @@ use Rattle.std.proofs.Common.{◌≡◌, ℕ, ◌^◌, ◌<◌, ◌≤◌, Bool,
 use Rattle.std.proofs.lemmas.Bool.Decides.{nat_tests}
 use Rattle.std.proofs.lemmas.Bool.{cases_lt}
 use Rattle.table.specs.declared.cell.Entry.{Entry}
-use Rattle.table.specs.Chain.{state, capacity, live, entry_at, Sound}
+use Rattle.table.specs.Chain.{capacity, live, entry_at, Sound}
+use Rattle.table.specs.Meaning.{state}
 use Rattle.links.proofs.Orders
 use Rattle.table.proofs.Soundness as sound
 use Rattle.kinds.specs.declared.EntryKind.{Ghosts}
@@ -16,7 +17,7 @@ use Rattle.index.proofs.Counting
 
 module _ {K A B : Type 0} {m : Ghosts K A B} (x : Index K A B m) where
   whole : Sound (state x.table)
-  whole = sound.out (state x.table) x.ok
+  whole = sound.whole x.table
 
   -- its memory lies as the layout says
   pub laid : Layout (parts x)

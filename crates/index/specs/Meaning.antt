@@ -1,9 +1,11 @@
 -- What an index holds: its meaning, as a function of its memory.
 use Rattle.std.specs.Prelude.{ℕ, List, is_some, Option}
 use Rattle.table.specs.declared.cell.Cell.{Cell}
+use Rattle.table.specs.declared.cell.Content.{Content}
 use Rattle.table.specs.declared.cell.Entry.{Entry}
 use Rattle.links.specs.Places.{count}
-use Rattle.table.specs.Chain.{State, state, entry_at, capacity}
+use Rattle.table.specs.Chain.{State, entry_at, capacity}
+use Rattle.table.specs.Meaning.{state}
 use Rattle.kinds.specs.declared.EntryKind.{Ghosts}
 use Rattle.index.specs.declared.kept.Index.{Index}
 
@@ -28,5 +30,5 @@ unfoldable pub memory : {K A B : Type 0} {m : Ghosts K A B} → Index K A B m �
 memory x = (state x.table).cs
 
 -- a new entry: its hash is that of its key
-abbrev pub made : {A B : Type 0} → (A → ℕ) → A → B → ℕ → ℕ → ℕ → ℕ → Entry A B
-made hashed k v w t x n = record { key = k; value = v; weight = w; hash = hashed k; touched = t; written = x; ticket = n }
+abbrev pub made : {A B : Type 0} → (A → ℕ) → A → Content B → ℕ → Entry A B
+made hashed k c n = record { key = k; value = c.value; weight = c.weight; hash = hashed k; touched = c.touched; written = c.written; ticket = n }

@@ -1,17 +1,17 @@
 //! The calls.
-ghost use Rattle.std.specs.Prelude.{◌≡◌, ℕ, ◌+◌, ◌<◌, Bool, true, false, length, is_some, if◌then◌else◌, Some, None, nat_eq, nat_lt};
+// `Lawful` is a premise, and not a fact of the type: no call asks, and a caller may give an unlawful weight.
+ghost use Rattle.std.specs.Prelude.{◌≡◌, ℕ, ◌+◌, ◌<◌, true, length, is_some, if◌then◌else◌, Some, None, nat_eq, nat_lt};
 ghost use Rattle.links.specs.Places.{is, pick};
-ghost use Rattle.table.specs.Chain.{capacity_of};
+ghost use Rattle.table.specs.Chain.{capacity_of, key_of};
 ghost use Rattle.table.specs.Calls.{anew_in};
+ghost use Rattle.table.specs.Meaning.{state};
 ghost use Rattle.index.specs.Lawful.{hit, Finds, Lawful};
-ghost use Rattle.index.specs.Layout.{Layout};
-ghost use Rattle.index.specs.Meaning.{parts, entries, capacity_in, memory, held_in, made};
+ghost use Rattle.index.specs.Meaning.{entries, capacity_in, memory, held_in, made};
 
 use crate::kept::Index;
-use crate::search::find_in;
 use kinds::EntryKind;
 use links::Link;
-use table::{Cell, Entry, Table, clear_heads};
+use table::{Cell, Content, Entry, Table};
 
 impl<'m, K: EntryKind> Index<'m, K> {
     /// An index that holds nothing. It empties the heads, and leaves the cells as they are lent.
@@ -21,18 +21,17 @@ impl<'m, K: EntryKind> Index<'m, K> {
         ensures lawful { Lawful K.alike K.hashed K.weighs (entries result) }
         ensures untouched { memory result ≡ cells.old }
         ensures capacity { capacity_in result ≡ capacity_of (length cells.old) (length heads.old) }
-        ensures layout { Layout (parts result) }
     {
-        clear_heads(heads);
-        Index {
-            table: Table {
-                cells,
-                heads,
-                used: 0,
-                free: Link::none(),
-                held: 0,
-            },
-        }
+        let table = Table::new(cells, heads);
+        Index { table }
+    }
+
+    /// Whether the key of cell i, held or not, is the same as this one.
+    fn is_key_of(&self, i: usize, key: &K::Key) -> bool
+        ensures { result ≡ key_of K.alike (state self.now.table).cs key.now i }
+    {
+        let cell = self.table.cell(i);
+        cell.is_some_and(|c| K::same(&c.entry.key, key))
     }
 
     /// The cell that holds the key.
@@ -40,73 +39,60 @@ impl<'m, K: EntryKind> Index<'m, K> {
         ensures held { (i : ℕ) → result ≡ Some i → hit K.alike (entries self.now i) key.now ≡ true }
         ensures found { Lawful K.alike K.hashed K.weighs (entries self.now) → Finds K.alike (entries self.now) key.now result }
     {
-        find_in::<K>(&self.table, key)
+        let mut chain = self.table.chain(K::hash(key));
+        chain.find(|i| self.is_key_of(*i, key))
     }
 
     /// A free cell for a new entry; none where every cell is held.
-    pub fn take(
-        &mut self,
-        key: K::Key,
-        value: K::Value,
-        weight: u32,
-        touched: u64,
-        written: u64,
-        ticket: u64,
-    ) -> Option<usize>
+    pub fn take(&mut self, key: K::Key, content: Content<K::Value>, ticket: u64) -> Option<usize>
         ensures answer { is_some result ≡ nat_lt (held_in self.old) (capacity_in self.old) }
-        ensures holds { (j : ℕ) → entries self.new j ≡ (if is result j then Some (made K.hashed key value weight touched written ticket) else entries self.old j) }
+        ensures holds { (j : ℕ) → entries self.new j ≡ (if is result j then Some (made K.hashed key content ticket) else entries self.old j) }
         ensures fresh { (i : ℕ) → result ≡ Some i → entries self.old i ≡ None }
         ensures within { (i : ℕ) → result ≡ Some i → i < capacity_in self.old }
         ensures held { held_in self.new ≡ held_in self.old + pick result 0 1 }
         ensures capacity { capacity_in self.new ≡ capacity_in self.old }
-        ensures lawful { Lawful K.alike K.hashed K.weighs (entries self.old) → Finds K.alike (entries self.old) key None → weight ≡ K.weighs key value → Lawful K.alike K.hashed K.weighs (entries self.new) }
-        ensures layout { Layout (parts self.new) }
+        ensures lawful { Lawful K.alike K.hashed K.weighs (entries self.old) → Finds K.alike (entries self.old) key None → content.weight ≡ K.weighs key content.value → Lawful K.alike K.hashed K.weighs (entries self.new) }
     {
         let hash = K::hash(&key);
         self.table.take(Entry {
             key,
-            value,
-            weight,
+            value: content.value,
+            weight: content.weight,
             hash,
-            touched,
-            written,
+            touched: content.touched,
+            written: content.written,
             ticket,
         })
     }
 
-    /// Gives cell i up; false where it is not held.
-    pub fn give_up(&mut self, i: usize) -> bool
-        ensures answer { result ≡ is_some (entries self.old i) }
+    /// Gives cell i up: the entry that it held, if it was held.
+    pub fn give_up(&mut self, i: usize) -> Option<Entry<K::Key, K::Value>>
+        ensures answer { result ≡ entries self.old i }
         ensures holds { (j : ℕ) → entries self.new j ≡ (if nat_eq j i then None else entries self.old j) }
-        ensures held { held_in self.new + (if result then 1 else 0) ≡ held_in self.old }
+        ensures held { held_in self.new + (if is_some result then 1 else 0) ≡ held_in self.old }
         ensures capacity { capacity_in self.new ≡ capacity_in self.old }
         ensures lawful { Lawful K.alike K.hashed K.weighs (entries self.old) → Lawful K.alike K.hashed K.weighs (entries self.new) }
-        ensures layout { Layout (parts self.new) }
     {
         self.table.give_up(i)
     }
 
-    /// Another value, weight and instants for the entry of cell i; false where it is not held. The entry stays
+    /// Another content for the entry of cell i: the entry as it was, if the cell is held. The entry stays
     /// lawful if the weight is that of the value with any key that is the same as the entry's.
     pub fn replace(
         &mut self,
         i: usize,
-        value: K::Value,
-        weight: u32,
-        touched: u64,
-        written: u64,
-    ) -> bool
-        ensures answer { result ≡ is_some (entries self.old i) }
-        ensures holds { (j : ℕ) → entries self.new j ≡ (if nat_eq j i then anew_in value weight touched written (entries self.old j) else entries self.old j) }
+        content: Content<K::Value>,
+    ) -> Option<Entry<K::Key, K::Value>>
+        ensures answer { result ≡ entries self.old i }
+        ensures holds { (j : ℕ) → entries self.new j ≡ (if nat_eq j i then anew_in content (entries self.old j) else entries self.old j) }
         ensures held { held_in self.new ≡ held_in self.old }
         ensures capacity { capacity_in self.new ≡ capacity_in self.old }
-        ensures lawful { (k : _) → hit K.alike (entries self.old i) k ≡ true → weight ≡ K.weighs k value → Lawful K.alike K.hashed K.weighs (entries self.old) → Lawful K.alike K.hashed K.weighs (entries self.new) }
-        ensures layout { Layout (parts self.new) }
+        ensures lawful { (k : _) → hit K.alike (entries self.old i) k ≡ true → content.weight ≡ K.weighs k content.value → Lawful K.alike K.hashed K.weighs (entries self.old) → Lawful K.alike K.hashed K.weighs (entries self.new) }
     {
-        self.table.replace(i, value, weight, touched, written)
+        self.table.replace(i, content)
     }
 
-    /// The entry of cell i; none where it is not held.
+    /// The entry of cell i, if it is held.
     pub fn get(&self, i: usize) -> Option<Entry<K::Key, K::Value>>
         ensures { result ≡ entries self.now i }
     {
@@ -133,7 +119,6 @@ impl<'m, K: EntryKind> Index<'m, K> {
         ensures held { held_in self.new ≡ 0 }
         ensures capacity { capacity_in self.new ≡ capacity_in self.old }
         ensures lawful { Lawful K.alike K.hashed K.weighs (entries self.new) }
-        ensures layout { Layout (parts self.new) }
     {
         self.table.clear();
     }

@@ -14,6 +14,5 @@
 
 mod calls;
 mod kept;
-mod search;
 
 pub use kept::Index;

@@ -8,7 +8,6 @@
 #![tactic(auto)]
 
 mod holder;
-mod parts;
 
 pub use holder::{Holder, hold};
 

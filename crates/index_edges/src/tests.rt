@@ -4,7 +4,7 @@ use index::Index;
 use kinds::{Log, Reading, Serials, Tags};
 use links::Link;
 use std::process::Abort;
-use table::{Cell, Entry};
+use table::{Cell, Content, Entry};
 
 /// A cell as memory may be found: its mark says that it is held.
 fn found() -> Cell<u64, Reading> {
@@ -23,8 +23,19 @@ fn found() -> Cell<u64, Reading> {
     }
 }
 
+/// A reading of a serial.
 fn reading(descents: u32) -> Reading {
     Reading { descents, day: 2 }
+}
+
+/// This value with this weight, at the first instant.
+fn content<Value>(value: Value, weight: u32) -> Content<Value> {
+    Content {
+        value,
+        weight,
+        touched: 0,
+        written: 0,
+    }
 }
 
 /// A call and what it is to answer.
@@ -39,10 +50,10 @@ enum Step {
 fn follow_one(rt: &impl Abort, x: &mut Index<'_, Serials>, step: Step) {
     match step {
         Step::Take { key, cell } => {
-            assert_eq!(rt; x.take(key, reading(1), 1, 0, 0, key), cell);
+            assert_eq!(rt; x.take(key, content(reading(1), 1), key), cell);
         }
         Step::GiveUp { cell, done } => {
-            assert_eq!(rt; x.give_up(cell), done);
+            assert_eq!(rt; x.give_up(cell).is_some(), done);
         }
         Step::Find { key, cell } => {
             assert_eq!(rt; x.find(&key), cell);
@@ -54,8 +65,8 @@ fn follow_one(rt: &impl Abort, x: &mut Index<'_, Serials>, step: Step) {
 }
 
 fn follow(rt: &impl Abort, x: &mut Index<'_, Serials>, steps: &[Step]) {
-    for i in 0..steps.len() {
-        follow_one(rt, x, steps[i]);
+    for step in steps {
+        follow_one(rt, x, *step);
     }
 }
 
@@ -209,7 +220,7 @@ fn one_key_has_two_spellings(rt: HostRuntime) {
     let mut cells = [blank, blank];
     let mut heads = [Link::none(), Link::none()];
     let mut x = Index::<Tags>::new(&mut cells, &mut heads);
-    assert_eq!(rt; x.take(0x4162, log, 11, 0, 0, 1), Some(0));
+    assert_eq!(rt; x.take(0x4162, content(log, 11), 1), Some(0));
     assert_eq!(rt; x.find(&0x6142), Some(0));
     assert_eq!(rt; x.find(&0x6163), None);
 }

@@ -1,9 +1,11 @@
 -- Chains: after a cell joins one, after it leaves one, and as the walk finds them.
-use Rattle.std.proofs.Common.{◌≡◌, ℕ, zero, suc, ◌-◌, ◌<◌, ◌≤◌, Bool, true, false, cond, eqb, List, [], ◌∷◌, length, Some, None, Option, sym, refl, ap, ◌∙◌, subst, inl, inr, arith}
+use Rattle.std.proofs.Common.{◌≡◌, ℕ, zero, suc, ◌<◌, ◌≤◌, Bool, true, false, not, cond, eqb, List, [], ◌∷◌, length, Some, None, Option, sym, refl, ap, ◌∙◌, subst, inl, inr, arith}
 use Rattle.std.proofs.lemmas.Bool.Decides.{nat_tests}
+use Rattle.std.specs.List.{last_or, take_while}
 use Rattle.std.proofs.lemmas.Bool.{cases_eq, cases_Bool}
-use Rattle.links.specs.Places.{is, pick, first, has, after, before_from, before, distinct, without, seek}
-use Rattle.table.specs.Chain.{walk, prior, Chain}
+use Rattle.std.proofs.lemmas.List.Sums.{take_while-cons}
+use Rattle.links.specs.Places.{is, pick, first, has, after, before_from, before, distinct, without}
+use Rattle.table.specs.Chain.{walk, Chain}
 use Rattle.links.proofs.Orders
 
 -- some list is the chain
@@ -74,51 +76,17 @@ settled lk h mem n w s =
     let e : walk lk n h ≡ s.0 = ap (walk lk n) c.starts ∙ walk_is lk n s.0 l c.apart c.links in
     subst (Chain lk h mem) (sym e) c
 
-pub prior_is : (lk : ℕ → Option ℕ) (n : ℕ) (p h : Option ℕ) (i : ℕ) → has (walk lk n h) i ≡ true → prior lk n p h i ≡ before_from p (walk lk n h) i
-prior_is lk zero p h i t = absurd (Orders.both_ways refl t)
-prior_is lk (suc n) p None i t = absurd (Orders.both_ways refl t)
-prior_is lk (suc n) p (Some x) i t =
-    elim (cases_Bool (eqb i x)) [ inl e ↦ rw e | inr e ↦ rw e (prior_is lk n (Some x) (lk x) i (rw e at t)) ]
-
-pub walk_step : (lk : ℕ → Option ℕ) (n x : ℕ) → 0 < n → walk lk n (Some x) ≡ x ∷ walk lk (n - 1) (lk x)
-walk_step lk zero x l = absurd (omega arith)
-walk_step lk (suc n) x l = let e : suc n - 1 ≡ n = omega arith in rw e
+-- what the walk passes last before i is what stands before it
+pub last_before : (p : Option ℕ) (xs : List ℕ) (i : ℕ) → has xs i ≡ true → last_or p (take_while (λ j. not (eqb j i)) xs) ≡ before_from p xs i
+last_before p [] i t = absurd (Orders.both_ways refl t)
+last_before p (x ∷ xs) i t = elim (cases_eq i x) [
+  | inl e ↦ let z : eqb i x ≡ true = grind (arith, nat_tests) in let y : eqb x i ≡ true = grind (arith, nat_tests) in rw (take_while-cons, y, z)
+  | inr n ↦ let z : eqb i x ≡ false = grind (arith, nat_tests) in let y : eqb x i ≡ false = grind (arith, nat_tests) in rw (take_while-cons, y, z) (last_before (Some x) xs i (rw z at t))
+]
 
 pub walk_none : (lk : ℕ → Option ℕ) (n : ℕ) → walk lk n None ≡ []
 walk_none lk zero = refl
 walk_none lk (suc n) = refl
-
-pub prior_step : (lk : ℕ → Option ℕ) (n : ℕ) (p : Option ℕ) (x i : ℕ) → 0 < n → prior lk n p (Some x) i ≡ cond (eqb i x) p (prior lk (n - 1) (Some x) (lk x) i)
-prior_step lk zero p x i l = absurd (omega arith)
-prior_step lk (suc n) p x i l = let e : suc n - 1 ≡ n = omega arith in rw e
-
-pub prior_none : (lk : ℕ → Option ℕ) (n : ℕ) (p : Option ℕ) (i : ℕ) → prior lk n p None i ≡ p
-prior_none lk zero p i = refl
-prior_none lk (suc n) p i = refl
-
--- ---- one step of a walk
-pub prior_end : (lk : ℕ → Option ℕ) (n : ℕ) (p at : Option ℕ) (i : ℕ) (o : Option ℕ) → at ≡ None → o ≡ prior lk n p at i → p ≡ o
-prior_end lk n p at i o e h = sym (h ∙ ap (λ (x : Option ℕ). prior lk n p x i) e ∙ prior_none lk n p i)
-
-pub prior_met : (lk : ℕ → Option ℕ) (n : ℕ) (p at : Option ℕ) (i j : ℕ) (o : Option ℕ) → 0 < n → at ≡ Some j → j ≡ i → o ≡ prior lk n p at i → p ≡ o
-prior_met lk n p at i j o l e q h =
-    let z : eqb i j ≡ true = grind (arith, nat_tests) in
-    sym (h ∙ ap (λ (x : Option ℕ). prior lk n p x i) e ∙ prior_step lk n p j i l ∙ rw z)
-
-pub prior_on : (lk : ℕ → Option ℕ) (n : ℕ) (p at : Option ℕ) (i j : ℕ) (o r : Option ℕ) → 0 < n → at ≡ Some j → (j ≡ i → ⊥) → r ≡ lk j → o ≡ prior lk n p at i → o ≡ prior lk (n - 1) (Some j) r i
-prior_on lk n p at i j o r l e q w h =
-    let z : eqb i j ≡ false = grind (arith, nat_tests) in
-    h ∙ ap (λ (x : Option ℕ). prior lk n p x i) e ∙ prior_step lk n p j i l ∙ rw z (ap (λ (x : Option ℕ). prior lk (n - 1) (Some j) x i) (sym w))
-
-pub seek_end : (f : ℕ → Bool) (lk : ℕ → Option ℕ) (n : ℕ) (at o : Option ℕ) → at ≡ None → o ≡ seek f (walk lk n at) → None ≡ o
-seek_end f lk n at o e h = sym (h ∙ ap (λ (x : Option ℕ). seek f (walk lk n x)) e ∙ ap (seek f) (walk_none lk n))
-
-pub seek_met : (f : ℕ → Bool) (lk : ℕ → Option ℕ) (n : ℕ) (at o : Option ℕ) (j : ℕ) → 0 < n → at ≡ Some j → f j ≡ true → o ≡ seek f (walk lk n at) → Some j ≡ o
-seek_met f lk n at o j l e t h = sym (h ∙ ap (λ (x : Option ℕ). seek f (walk lk n x)) e ∙ ap (seek f) (walk_step lk n j l) ∙ rw t)
-
-pub seek_on : (f : ℕ → Bool) (lk : ℕ → Option ℕ) (n : ℕ) (at o r : Option ℕ) (j : ℕ) → 0 < n → at ≡ Some j → f j ≡ false → r ≡ lk j → o ≡ seek f (walk lk n at) → o ≡ seek f (walk lk (n - 1) r)
-seek_on f lk n at o r j l e t w h =
-    h ∙ ap (λ (x : Option ℕ). seek f (walk lk n x)) e ∙ ap (seek f) (walk_step lk n j l) ∙ rw t (ap (λ (x : Option ℕ). seek f (walk lk (n - 1) x)) (sym w))
 
 -- ---- cell i goes from its chain, if it has one, to the front of chain b
 pub moved : (lk lk' hd hd' sp sp' : ℕ → Option ℕ) (xs : ℕ → List ℕ) (i b : ℕ) (p : Option ℕ)

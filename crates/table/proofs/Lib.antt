@@ -3,3 +3,4 @@ pub mod Masks
 pub mod Chains
 pub mod Soundness
 pub mod Outcomes
+pub mod Walks

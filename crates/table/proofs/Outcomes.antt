@@ -1,16 +1,18 @@
 -- What each call makes of what is held: the records that the calls promise, from the states that the writes leave.
-use Rattle.std.proofs.Common.{◌≡◌, ℕ, ◌+◌, ◌%◌, ◌<◌, ◌≤◌, true, false, cond, eqb, ltb, List, [], ◌∷◌, length, set, is_some, Some, None, Option, sym, refl, ap, ◌∙◌, subst, inl, inr, arith, length-set}
-use Rattle.std.specs.List.{slice_get}
+use Rattle.std.proofs.Common.{◌≡◌, ℕ, ◌+◌, ◌-◌, ◌^◌, ◌%◌, ◌<◌, ◌≤◌, true, false, not, cond, eqb, ltb, List, [], ◌∷◌, length, set, is_some, Some, None, Option, sym, refl, ap, ◌∙◌, subst, inl, inr, arith, length-set}
+use Rattle.std.specs.List.{slice_get, last_or, take_while}
 use Rattle.std.proofs.lemmas.Bool.Decides.{nat_tests}
 use Rattle.std.proofs.lemmas.Bool.{cases_eq, cases_Bool, lt-ltb, le-ltb, ltb-true}
 use Rattle.table.specs.declared.cell.Cell.{Cell}
+use Rattle.table.specs.declared.cell.Content.{Content}
 use Rattle.table.specs.declared.cell.Entry.{Entry}
 use Rattle.links.specs.declared.Link.{Link}
 use Rattle.table.specs.declared.vacancy.Vacancy.{Vacancy}
-use Rattle.links.specs.Links.{goes_to}
+use Rattle.links.specs.Links.{most, goes_to, to_place}
 use Rattle.links.specs.Places.{is, pick, first, has, before}
-use Rattle.table.specs.Chain.{State, capacity, chain_in, link_in, spot_in, entry_in, link_of, link, spot, entry_at, live, head_of, head_at, prior, chain, Sound}
-use Rattle.table.specs.Edits.{edited_at, anew, chain_to, emptied, join_state, freed, part_state, renew_state}
+use Rattle.table.specs.Chain.{State, capacity, chain_in, link_in, spot_in, entry_in, link_of, spot, entry_at, live, head_of, head_at, first_of, walk, chain, Sound}
+use Rattle.table.specs.Meaning.{chain_from}
+use Rattle.table.specs.Edits.{edited_at, anew, chain_to, filled, emptied, link_or, with_cells, join_state, freed, part_state, renew_state}
 use Rattle.table.specs.Calls.{anew_in, Marked, vacancy_of, vacancy_in, Took, Parted, Renewed, Emptied}
 use Rattle.links.proofs.Orders
 use Rattle.table.proofs.Memory
@@ -25,6 +27,14 @@ never : ◌≡◌ {A = ℕ} 0 1 → ⊥
 never z = omega arith
 
 module _ {A B : Type 0} where
+  -- the chain of a hash is that of its number
+  pub chain_of : (s : State A B) (h : ℕ) → 0 < length s.hs → chain_from s h ≡ chain s (h % length s.hs)
+  chain_of s h n =
+      let l = sound.mod_below h (length s.hs) n in
+      let z : eqb (h % length s.hs) (length s.hs) ≡ false = grind (arith, nat_tests) in
+      let q : head_at s (h % length s.hs) ≡ first_of s h = rw z in
+      ap (walk (link_of s.cs) (length s.cs)) (sym q)
+
   -- ---- taking
   joined_took : (s t : State A B) (u : ℕ) (f : Link) (i : ℕ) (e : Entry A B) → t ≡ join_state (freed s u f) i e → i < u → u ≤ capacity s → ((j : ℕ) → (j ≡ i → ⊥) → ltb j u ≡ ltb j s.used) → entry_at s i ≡ None → Sound (join_state (freed s u f) i e) → Took s t e (Some i)
   joined_took s t u f i e q k m w o h = subst (λ (x : State A B). Took s x e (Some i)) (sym q) (record {
@@ -50,10 +60,6 @@ module _ {A B : Type 0} where
     cells = refl;
     heads = refl;
   }
-
-  -- as many are held as can be
-  pub full_took : (s : State A B) (e : Entry A B) → Sound s → capacity s ≤ s.held → Took s s e None
-  full_took s e h l = none_took s e h (Orders.full_count (live s) (capacity s) (let z = h.total in omega arith))
 
   -- no cell was given up, and none is left that was never used
   all_held : (s : State A B) → Sound s → goes_to s.free ≡ None → capacity s ≤ s.used → (j : ℕ) → j < capacity s → is_some (entry_at s j) ≡ true
@@ -120,6 +126,33 @@ module _ {A B : Type 0} where
         | inr t ↦ let z : Some v ≡ None = rw t at q in let y : ◌≡◌ {A = ℕ} 0 1 = cc in absurd (never y)
       ]
 
+  pub taken : (s : State A B) (v : Vacancy) (e : Entry A B) (b : ℕ) (cs : List (Cell A B)) (hs : List Link) → Sound s → Some v ≡ vacancy_in s
+      → b ≡ e.hash % length s.hs
+      → cs ≡ set s.cs v.place (filled e (link_or (slice_get s.hs b)))
+      → hs ≡ set s.hs b (to_place v.place)
+      → Took s (record { cs = cs; hs = hs; used = v.used; free = v.rest; held = s.held + 1 }) e (Some v.place)
+  taken s v e b cs hs h q n c l = vacancy_took s _ v e h q (rw (c, l, n))
+
+  -- the first free cell is a vacancy
+  pub vacancy_free : (s : State A B) (i : ℕ) (c : Cell A B) → Sound s → Some i ≡ goes_to s.free → Some c ≡ slice_get s.cs i → Some (record { place = i; used = s.used; rest = c.chain }) ≡ vacancy_in s
+  vacancy_free s i c h f e =
+      let u = sound.free_used s h i (sym f) in
+      let z = h.size in
+      let t : ltb i (capacity s) ≡ true = lt-ltb i (capacity s) (omega arith) in
+      let a : Some (record { place = i; used = s.used; rest = c.chain }) ≡ vacancy_of s (Some i) = rw t (ap (λ (o : Option (Cell A B)). reused o) e) in
+      a ∙ ap (vacancy_of s) f
+    where
+      reused : Option (Cell A B) → Option Vacancy
+      reused o = Some (record { place = i; used = s.used; rest = chain_in o })
+
+  -- one more can be counted
+  pub held_fits : (s : State A B) → Sound s → s.held + 1 < 2 ^ 64
+  held_fits s h =
+      let a = Orders.count_all (live s) (capacity s) in
+      let b = sound.capacity_most (length s.cs) (length s.hs) in
+      let t = h.total in
+      omega arith
+
   -- no vacancy
   pub no_vacancy_took : (s : State A B) (e : Entry A B) → Sound s → None ≡ vacancy_in s → Took s s e None
   no_vacancy_took s e h q = none_took s e h (go (goes_to s.free) refl q)
@@ -152,10 +185,10 @@ module _ {A B : Type 0} where
   marked_entry s i c m = let t = m.marked in read_entry s i c m.used m.here ∙ rw t
 
   -- ---- giving up
-  pub none_parted : (s : State A B) (i : ℕ) → Sound s → entry_at s i ≡ None → Parted s s i false
+  pub none_parted : (s : State A B) (i : ℕ) → Sound s → entry_at s i ≡ None → Parted s s i None
   none_parted s i h o = record {
     sound = h;
-    answer = sym (ap is_some o);
+    answer = sym o;
     entries = λ j. elim (cases_eq j i) [
       | inl q ↦ let z : eqb j i ≡ true = grind (arith, nat_tests) in rw z (ap (entry_at s) q ∙ o)
       | inr n ↦ let z : eqb j i ≡ false = grind (arith, nat_tests) in rw z
@@ -165,25 +198,23 @@ module _ {A B : Type 0} where
     heads = refl;
   }
 
-  -- what the walk finds before i is what stands before it in its chain
-  prior_before : (s : State A B) → Sound s → (i : ℕ) (e : Entry A B) → 0 < length s.hs → entry_at s i ≡ Some e → prior (link_of s.cs) (length s.cs) None (head_of s.hs (e.hash % length s.hs)) i ≡ before (chain s (e.hash % length s.hs)) i
-  prior_before s h i e n o =
-      let l = sound.mod_below e.hash (length s.hs) n in
-      let z : eqb (e.hash % length s.hs) (length s.hs) ≡ false = grind (arith, nat_tests) in
-      let q : head_at s (e.hash % length s.hs) ≡ head_of s.hs (e.hash % length s.hs) = rw z in
-      ap (λ (x : Option ℕ). prior (link_of s.cs) (length s.cs) None x i) (sym q)
-      ∙ Chains.prior_is (link s) (length s.cs) None (head_at s (e.hash % length s.hs)) i (sym ((h.chains (e.hash % length s.hs)).holds i) ∙ Orders.is_some (sound.held_spot s i e o))
+  -- a held cell is counted
+  pub some_held : (s : State A B) (i : ℕ) (c : Cell A B) → Sound s → Marked s i c → 0 < s.held
+  some_held s i c h m =
+      let a = Orders.count_some (live s) i (capacity s) m.within (ap is_some (marked_entry s i c m)) in
+      let z = h.total in
+      omega arith
 
   pub part_parted : (s t : State A B) (i : ℕ) (c : Cell A B) (p : Option ℕ) → Sound s → Marked s i c
-      → p ≡ prior (link_of s.cs) (length s.cs) None (head_of s.hs (c.entry.hash % length s.hs)) i
+      → p ≡ last_or None (take_while (λ j. not (eqb j i)) (chain_from s c.entry.hash))
       → t ≡ part_state s i c.entry p (c.entry.hash % length s.hs) c.chain
-      → Parted s t i true
+      → Parted s t i (Some c.entry)
   part_parted s t i c p h m q w =
-      subst (λ (x : State A B). Parted s x i true) (sym w) (record {
-        sound = sound.part_sound s i c.entry p c.chain h o (sym (ap link_in m.here)) (q ∙ prior_before s h i c.entry n o);
-        answer = sym (ap is_some o);
+      subst (λ (x : State A B). Parted s x i (Some c.entry)) (sym w) (record {
+        sound = sound.part_sound s i c.entry p c.chain h o (sym (ap link_in m.here)) (q ∙ before_last);
+        answer = sym o;
         entries = sound.part_entries s i c.entry p b c.chain l m.used;
-        held = let a = some_held in omega arith;
+        held = let a = some_held s i c h m in omega arith;
         cells = length-set (edited_at (chain_to c.chain) s.cs p) i (emptied c.entry s.free) ∙ Memory.length_edited_at (chain_to c.chain) s.cs p;
         heads = hs_at p;
       })
@@ -200,23 +231,36 @@ module _ {A B : Type 0} where
       l : i < length s.cs
       l = let z = sound.capacity_cells (length s.cs) (length s.hs) in let y = m.within in omega arith
 
-      some_held : 0 < s.held
-      some_held =
-          let a = Orders.count_some (live s) i (capacity s) m.within (ap is_some o) in
-          let z = h.total in
-          omega arith
+      -- what the walk passes last before i is what stands before it in its chain
+      before_last : last_or None (take_while (λ j. not (eqb j i)) (chain_from s c.entry.hash)) ≡ before (chain s b) i
+      before_last =
+          ap (λ (xs : List ℕ). last_or None (take_while (λ j. not (eqb j i)) xs)) (chain_of s c.entry.hash n)
+          ∙ Chains.last_before None (chain s b) i (sym ((h.chains b).holds i) ∙ Orders.is_some (sound.held_spot s i c.entry o))
 
       hs_at : (r : Option ℕ) → length (pick r (set s.hs b c.chain) s.hs) ≡ length s.hs
       hs_at None = length-set s.hs b c.chain
       hs_at (Some x) = refl
 
+  pub parted : (s : State A B) (i : ℕ) (c : Cell A B) (p : Option ℕ) (b : ℕ) (cs : List (Cell A B)) (hs : List Link) (f : Link) → Sound s → Marked s i c
+      → b ≡ c.entry.hash % length s.hs
+      → p ≡ last_or None (take_while (λ j. not (eqb j i)) (chain_from s c.entry.hash))
+      → cs ≡ set (edited_at (chain_to c.chain) s.cs p) i (emptied c.entry s.free)
+      → hs ≡ pick p (set s.hs b c.chain) s.hs
+      → (i < most → f ≡ to_place i)
+      → Parted s (record { cs = cs; hs = hs; used = s.used; free = f; held = s.held - 1 }) i (Some c.entry)
+  parted s i c p b cs hs f h m n q e l k =
+      let w = m.within in
+      let z = sound.capacity_most (length s.cs) (length s.hs) in
+      let y = k (omega arith) in
+      part_parted s _ i c p h m q (rw (e, l, n, y))
+
   -- ---- renewing
-  pub none_renewed : (s : State A B) (i : ℕ) (v : B) (w a x : ℕ) → Sound s → entry_at s i ≡ None → Renewed s s i v w a x false
-  none_renewed s i v w a x h o = record {
+  pub none_renewed : (s : State A B) (i : ℕ) (c : Content B) → Sound s → entry_at s i ≡ None → Renewed s s i c None
+  none_renewed s i c h o = record {
     sound = h;
-    answer = sym (ap is_some o);
+    answer = sym o;
     entries = λ j. elim (cases_eq j i) [
-      | inl q ↦ let z : eqb j i ≡ true = grind (arith, nat_tests) in let y : entry_at s j ≡ None = ap (entry_at s) q ∙ o in rw z (y ∙ sym (ap (anew_in v w a x) y))
+      | inl q ↦ let z : eqb j i ≡ true = grind (arith, nat_tests) in let y : entry_at s j ≡ None = ap (entry_at s) q ∙ o in rw z (y ∙ sym (ap (anew_in c) y))
       | inr n ↦ let z : eqb j i ≡ false = grind (arith, nat_tests) in rw z
     ];
     held = refl;
@@ -224,14 +268,14 @@ module _ {A B : Type 0} where
     heads = refl;
   }
 
-  pub renew_renewed : (s t : State A B) (i : ℕ) (v : B) (w a x : ℕ) (c : Cell A B) → Sound s → Marked s i c → t ≡ renew_state s i (anew v w a x c.entry) c.chain → Renewed s t i v w a x true
-  renew_renewed s t i v w a x c h m q = subst (λ (z : State A B). Renewed s z i v w a x true) (sym q) (record {
-    sound = sound.renew_sound s i c.entry (anew v w a x c.entry) c.chain h o refl (sym (ap link_in m.here));
-    answer = sym (ap is_some o);
+  pub renew_renewed : (s t : State A B) (i : ℕ) (n : Content B) (c : Cell A B) → Sound s → Marked s i c → t ≡ renew_state s i (anew n c.entry) c.chain → Renewed s t i n (Some c.entry)
+  renew_renewed s t i n c h m q = subst (λ (z : State A B). Renewed s z i n (Some c.entry)) (sym q) (record {
+    sound = sound.renew_sound s i c.entry (anew n c.entry) c.chain h o refl (sym (ap link_in m.here));
+    answer = sym o;
     entries = λ j.
-        sound.renewed_entries s i (anew v w a x c.entry) c.chain (let z = sound.capacity_cells (length s.cs) (length s.hs) in let y = m.within in omega arith) m.used j
+        sound.renewed_entries s i (anew n c.entry) c.chain (let z = sound.capacity_cells (length s.cs) (length s.hs) in let y = m.within in omega arith) m.used j
         ∙ elim (cases_eq j i) [
-          | inl r ↦ let z : eqb j i ≡ true = grind (arith, nat_tests) in rw z (sym (ap (anew_in v w a x) (ap (entry_at s) r ∙ o)))
+          | inl r ↦ let z : eqb j i ≡ true = grind (arith, nat_tests) in rw z (sym (ap (anew_in n) (ap (entry_at s) r ∙ o)))
           | inr r ↦ let z : eqb j i ≡ false = grind (arith, nat_tests) in rw z
         ];
     held = refl;
@@ -241,6 +285,12 @@ module _ {A B : Type 0} where
     where
       o : entry_at s i ≡ Some c.entry
       o = marked_entry s i c m
+
+  pub renewed : (s : State A B) (i : ℕ) (n : Content B) (c : Cell A B) (e : Entry A B) (cs : List (Cell A B)) → Sound s → Marked s i c
+      → e ≡ anew n c.entry
+      → cs ≡ set s.cs i (record { entry = e; held = c.held; chain = c.chain })
+      → Renewed s (with_cells s cs) i n (Some c.entry)
+  renewed s i n c e cs h m q l = let t = m.marked in renew_renewed s _ i n c h m (rw (l, q, t))
 
   -- ---- nothing held
   pub emptied_is : (cs : List (Cell A B)) (hs : List Link) (n : ℕ) (f : Link) (t : State A B) → t ≡ record { cs = cs; hs = hs; used = 0; free = f; held = 0 } → goes_to f ≡ None → length hs ≡ n → ((b : ℕ) → head_of hs b ≡ None) → Emptied cs n t

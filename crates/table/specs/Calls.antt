@@ -1,7 +1,8 @@
 -- What each call makes of the state.
-use Rattle.std.specs.Prelude.{◌≡◌, ℕ, ◌+◌, ◌<◌, Bool, true, cond, List, length, is_some, Some, None, Option, ◌==◌, nat_lt}
+use Rattle.std.specs.Prelude.{◌≡◌, ℕ, ◌+◌, ◌<◌, true, cond, List, length, is_some, Some, None, Option, ◌==◌, nat_lt}
 use Rattle.std.specs.List.{slice_get}
 use Rattle.table.specs.declared.cell.Cell.{Cell}
+use Rattle.table.specs.declared.cell.Content.{Content}
 use Rattle.table.specs.declared.cell.Entry.{Entry}
 use Rattle.table.specs.declared.vacancy.Vacancy.{Vacancy}
 use Rattle.links.specs.Links.{goes_to}
@@ -9,10 +10,10 @@ use Rattle.links.specs.Places.{is, pick}
 use Rattle.table.specs.Chain.{State, capacity, chain_in, entry_at, Sound}
 use Rattle.table.specs.Edits.{anew}
 
--- the entry, if there is one, with another value, weight and instants
-abbrev pub anew_in : {A B : Type 0} → B → ℕ → ℕ → ℕ → Option (Entry A B) → Option (Entry A B)
-anew_in v w t x None = None
-anew_in v w t x (Some e) = Some (anew v w t x e)
+-- the entry, if there is one, with another content
+abbrev pub anew_in : {A B : Type 0} → Content B → Option (Entry A B) → Option (Entry A B)
+anew_in c None = None
+anew_in c (Some e) = Some (anew c e)
 
 -- cell i was used, can be reached, and is c, marked as held
 pub record Marked {A B : Type 0} (s : State A B) (i : ℕ) (c : Cell A B) : Type 0 where
@@ -41,20 +42,20 @@ pub record Took {A B : Type 0} (s t : State A B) (e : Entry A B) (r : Option ℕ
   pub cells : length t.cs ≡ length s.cs
   pub heads : length t.hs ≡ length s.hs
 
--- cell i was given up, if it was held
-pub record Parted {A B : Type 0} (s t : State A B) (i : ℕ) (r : Bool) : Type 0 where
+-- cell i was given up, if it was held, and r is what it held
+pub record Parted {A B : Type 0} (s t : State A B) (i : ℕ) (r : Option (Entry A B)) : Type 0 where
   pub sound : Sound t
-  pub answer : r ≡ is_some (entry_at s i)
+  pub answer : r ≡ entry_at s i
   pub entries : (j : ℕ) → entry_at t j ≡ cond (j == i) None (entry_at s j)
-  pub held : t.held + cond r 1 0 ≡ s.held
+  pub held : t.held + cond (is_some r) 1 0 ≡ s.held
   pub cells : length t.cs ≡ length s.cs
   pub heads : length t.hs ≡ length s.hs
 
--- the entry of cell i, if it was held, has another value, weight and instants
-pub record Renewed {A B : Type 0} (s t : State A B) (i : ℕ) (v : B) (w a x : ℕ) (r : Bool) : Type 0 where
+-- the entry of cell i, if it was held, has another content, and r is what it held
+pub record Renewed {A B : Type 0} (s t : State A B) (i : ℕ) (c : Content B) (r : Option (Entry A B)) : Type 0 where
   pub sound : Sound t
-  pub answer : r ≡ is_some (entry_at s i)
-  pub entries : (j : ℕ) → entry_at t j ≡ cond (j == i) (anew_in v w a x (entry_at s j)) (entry_at s j)
+  pub answer : r ≡ entry_at s i
+  pub entries : (j : ℕ) → entry_at t j ≡ cond (j == i) (anew_in c (entry_at s j)) (entry_at s j)
   pub held : t.held ≡ s.held
   pub cells : length t.cs ≡ length s.cs
   pub heads : length t.hs ≡ length s.hs

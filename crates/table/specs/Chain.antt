@@ -4,7 +4,6 @@ use Rattle.std.specs.List.{slice_get}
 use Rattle.table.specs.declared.cell.Cell.{Cell}
 use Rattle.table.specs.declared.cell.Entry.{Entry}
 use Rattle.links.specs.declared.Link.{Link}
-use Rattle.table.specs.declared.chained.Table.{Table}
 use Rattle.links.specs.Links.{goes_to, most, nowhere}
 use Rattle.links.specs.Places.{is, first, has, after, distinct, count}
 
@@ -16,10 +15,6 @@ pub record State (A B : Type 0) : Type 0 where
   pub used : ℕ
   pub free : Link
   pub held : ℕ
-
--- what lies in the table's memory
-abbrev pub state : {A B : Type 0} → Table A B → State A B
-state t = record { cs = t.cells.now; hs = t.heads.now; used = t.used; free = t.free; held = t.held }
 
 -- how many cells can be held: those lent, as far as a link reaches, and none without a head
 abbrev pub capacity_of : ℕ → ℕ → ℕ
@@ -103,12 +98,6 @@ walk lk zero h = []
 walk lk (suc f) None = []
 walk lk (suc f) (Some i) = i ∷ walk lk f (lk i)
 
--- what stands before i on the walk
-abbrev pub prior : (ℕ → Option ℕ) → ℕ → Option ℕ → Option ℕ → ℕ → Option ℕ
-prior lk zero p h i = p
-prior lk (suc f) p None i = p
-prior lk (suc f) p (Some x) i = cond (i == x) p (prior lk f (Some x) (lk x) i)
-
 -- xs is a chain: it starts at h, goes along the links, and has the cells of mem, each once
 pub record Chain (lk : ℕ → Option ℕ) (h : Option ℕ) (mem : ℕ → Bool) (xs : List ℕ) : Type 0 where
   pub holds : (j : ℕ) → mem j ≡ has xs j
@@ -126,6 +115,6 @@ pub record Sound {A B : Type 0} (s : State A B) : Type 0 where
   pub size : s.used ≤ capacity s
   pub total : s.held ≡ count (live s) (capacity s)
 
--- the same, as a ghost field keeps it
-abbrev pub Kept : {A B : Type 0} → Table A B → Type 0
-Kept t = ∥ Sound (state t) ∥₁
+-- the same of memory, as a ghost field keeps it
+abbrev pub Kept : {A B : Type 0} → List (Cell A B) → List Link → ℕ → Link → ℕ → Type 0
+Kept cs hs u f n = ∥ Sound (record { cs = cs; hs = hs; used = u; free = f; held = n }) ∥₁

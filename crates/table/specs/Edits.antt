@@ -2,6 +2,7 @@
 use Rattle.std.specs.Prelude.{ℕ, zero, suc, ◌+◌, ◌-◌, ◌%◌, true, false, List, [], ◌∷◌, length, Some, None, Option, slice_set}
 use Rattle.std.specs.List.{slice_get}
 use Rattle.table.specs.declared.cell.Cell.{Cell}
+use Rattle.table.specs.declared.cell.Content.{Content}
 use Rattle.table.specs.declared.cell.Entry.{Entry}
 use Rattle.links.specs.declared.Link.{Link}
 use Rattle.links.specs.Links.{to_place, nowhere}
@@ -19,9 +20,9 @@ abbrev pub edited_at : {X : Type 0} → (X → X) → List X → Option ℕ → 
 edited_at f ns None = ns
 edited_at f ns (Some i) = edited f ns i
 
--- the same entry with another value, weight and instants: the key, its hash and the ticket stay
-abbrev pub anew : {A B : Type 0} → B → ℕ → ℕ → ℕ → Entry A B → Entry A B
-anew v w t x e = record { key = e.key; value = v; weight = w; hash = e.hash; touched = t; written = x; ticket = e.ticket }
+-- the same entry with another content: the key, its hash and the ticket stay
+abbrev pub anew : {A B : Type 0} → Content B → Entry A B → Entry A B
+anew c e = record { key = e.key; value = c.value; weight = c.weight; hash = e.hash; touched = c.touched; written = c.written; ticket = e.ticket }
 
 -- the same cell with another link
 abbrev pub chain_to : {A B : Type 0} → Link → Cell A B → Cell A B

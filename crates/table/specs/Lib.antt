@@ -1,3 +1,4 @@
 pub mod Chain
+pub mod Meaning
 pub mod Edits
 pub mod Calls

@@ -1,5 +1,18 @@
-//! One place of the lent memory.
+//! One place of the lent memory, and what is put there.
+ghost use Rattle.std.specs.Prelude.{◌≡◌};
+ghost use Rattle.std.specs.List.{slice_get};
+ghost use Rattle.table.specs.Edits.{anew};
+
 use links::Link;
+
+/// What a key is given: a value, its weight, and the instants at which it was last touched and written.
+#[derive(Clone, Copy)]
+pub struct Content<Value> {
+    pub value: Value,
+    pub weight: u32,
+    pub touched: u64,
+    pub written: u64,
+}
 
 /// What a held cell has: its meaning, whatever the layout.
 #[derive(Clone, Copy)]
@@ -19,4 +32,29 @@ pub struct Cell<Key, Value> {
     pub entry: Entry<Key, Value>,
     pub held: bool,
     pub chain: Link,
+}
+
+impl<Key: Copy, Value: Copy> Entry<Key, Value> {
+    /// The same entry with another content: its key, hash and ticket stay.
+    pub(crate) fn renewed(self, content: Content<Value>) -> Entry<Key, Value>
+        ensures { result ≡ anew content self }
+    {
+        Entry {
+            value: content.value,
+            weight: content.weight,
+            touched: content.touched,
+            written: content.written,
+            ..self
+        }
+    }
+}
+
+/// The cell at place i, if one is lent there.
+pub(crate) fn cell_at<Key: Copy, Value: Copy>(
+    cells: &[Cell<Key, Value>],
+    i: usize,
+) -> Option<Cell<Key, Value>>
+    ensures { result ≡ slice_get cells.now i }
+{
+    cells.get(i).copied()
 }

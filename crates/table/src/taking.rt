@@ -1,25 +1,41 @@
-//! The calls: each is safe on any memory, and does what its record says where the memory is `Sound`.
-ghost use Rattle.std.specs.Prelude.{◌≡◌, ◌<◌, length, Some, None, MatchOption};
-ghost use Rattle.table.specs.Chain.{state, link_of, head_of, prior, entry_at, Sound};
+//! The calls: each does what its record says, on every table.
+ghost use Rattle.std.specs.Prelude.{◌≡◌, length, None, MatchOption, not, ◌==◌};
+ghost use Rattle.std.specs.List.{last_or, take_while};
+ghost use Rattle.table.specs.Chain.{entry_at};
 ghost use Rattle.table.specs.Calls.{Marked, vacancy_in, Took, Parted, Renewed, Emptied};
+ghost use Rattle.table.specs.Meaning.{state, chain_from};
 
-use crate::cell::{Cell, Entry};
-use crate::chained::{Table, before, clear_heads};
+use crate::cell::{Cell, Content, Entry};
+use crate::lent::Table;
 use crate::vacancy::Vacancy;
+use crate::writes::{clear_heads, join, part, put};
 use links::Link;
 
-impl<Key: Copy, Value: Copy> Table<'_, Key, Value> {
+impl<'m, Key: Copy, Value: Copy> Table<'m, Key, Value> {
+    /// A table that holds nothing. It empties the heads, and leaves the cells as they are lent.
+    pub fn new(cells: &'m mut [Cell<Key, Value>], heads: &'m mut [Link]) -> Table<'m, Key, Value>
+        ensures { Emptied cells.old (length heads.old) (state result) }
+    {
+        clear_heads(heads);
+        Table {
+            cells,
+            heads,
+            free: Link::none(),
+            used: 0,
+            held: 0,
+        }
+    }
+
     /// Cell i, if it is held.
     fn held_cell(&self, i: usize) -> Option<Cell<Key, Value>>
-        ensures { MatchOption result (Sound (state self.now) → entry_at (state self.now) i ≡ None) (Marked (state self.now) i) }
+        ensures { MatchOption result (entry_at (state self.now) i ≡ None) (Marked (state self.now) i) }
     {
-        if i >= self.used || i >= self.capacity() {
-            return None;
+        let c = self.cell(i)?;
+        if c.held && i < self.used {
+            Some(c)
+        } else {
+            None
         }
-        let Some(c) = self.cell(i) else {
-            return None;
-        };
-        if c.held { Some(c) } else { None }
     }
 
     /// The cell to take next: the one given up last, or else the first never used.
@@ -27,113 +43,72 @@ impl<Key: Copy, Value: Copy> Table<'_, Key, Value> {
         ensures { result ≡ vacancy_in (state self.now) }
     {
         match self.free.target() {
-            Some(i) => {
-                if i >= self.capacity() {
-                    return None;
-                }
-                let Some(c) = self.cell(i) else {
-                    return None;
-                };
+            Some(place) => {
+                let c = self.cell(place)?;
                 Some(Vacancy {
-                    place: i,
+                    place,
                     used: self.used,
                     rest: c.chain,
                 })
             }
-            None => {
-                if self.used >= self.capacity() {
-                    return None;
-                }
-                Some(Vacancy {
-                    place: self.used,
-                    used: self.used + 1,
-                    rest: self.free,
-                })
-            }
+            None if self.used < self.capacity() => Some(Vacancy {
+                place: self.used,
+                used: self.used + 1,
+                rest: self.free,
+            }),
+            None => None,
         }
     }
 
     /// Takes a free cell for this entry; none where every cell is held.
     pub fn take(&mut self, entry: Entry<Key, Value>) -> Option<usize>
-        ensures { Sound (state self.old) → Took (state self.old) (state self.new) entry result }
+        ensures { Took (state self.old) (state self.new) entry result }
     {
-        if self.held >= self.capacity() {
-            return None;
-        }
-        let Some(v) = self.vacancy() else {
-            return None;
-        };
+        let v = self.vacancy()?;
+        let b = self.bucket(entry.hash);
+        join(self.cells, self.heads, v.place, b, entry);
         self.used = v.used;
         self.free = v.rest;
-        self.join(v.place, entry);
+        self.held += 1;
         Some(v.place)
     }
 
-    /// What stands before cell i in chain b.
-    fn before_in(&self, b: usize, i: usize) -> Option<usize>
-        requires { b < length (state self.now).hs }
-        ensures { result ≡ prior (link_of (state self.now).cs) (length (state self.now).cs) None (head_of (state self.now).hs b) i }
+    /// What stands before cell i in the chain of a hash.
+    fn before(&self, hash: u64, i: usize) -> Option<usize>
+        ensures { result ≡ last_or None (take_while (λ j. not (j == i)) (chain_from (state self.now) hash)) }
     {
-        let head = self.head(b).target();
-        before(self.cells, head, i)
+        self.chain(hash).take_while(|j| *j != i).last()
     }
 
-    /// Gives cell i up; false where it is not held.
-    pub fn give_up(&mut self, i: usize) -> bool
-        ensures { Sound (state self.old) → Parted (state self.old) (state self.new) i result }
+    /// Gives cell i up: the entry that it held, if it was held.
+    pub fn give_up(&mut self, i: usize) -> Option<Entry<Key, Value>>
+        ensures { Parted (state self.old) (state self.new) i result }
     {
-        let Some(c) = self.held_cell(i) else {
-            return false;
-        };
+        let c = self.held_cell(i)?;
         let b = self.bucket(c.entry.hash);
-        let p = self.before_in(b, i);
-        self.relink(p, b, c.chain);
-        self.vacate(i, c.entry);
-        true
-    }
-
-    /// Another value, weight and instants for the entry of cell i; false where it is not held.
-    pub fn replace(
-        &mut self,
-        i: usize,
-        value: Value,
-        weight: u32,
-        touched: u64,
-        written: u64,
-    ) -> bool
-        ensures { Sound (state self.old) → Renewed (state self.old) (state self.new) i value weight touched written result }
-    {
-        let Some(c) = self.held_cell(i) else {
-            return false;
-        };
-        let entry = Entry {
-            key: c.entry.key,
-            value,
-            weight,
-            hash: c.entry.hash,
-            touched,
-            written,
-            ticket: c.entry.ticket,
-        };
-        self.put(
-            i,
-            Cell {
-                entry,
-                held: true,
-                chain: c.chain,
-            },
-        );
-        true
-    }
-
-    /// The entry of cell i; none where it is not held.
-    pub fn get(&self, i: usize) -> Option<Entry<Key, Value>>
-        ensures { Sound (state self.now) → result ≡ entry_at (state self.now) i }
-    {
-        let Some(c) = self.held_cell(i) else {
-            return None;
-        };
+        let p = self.before(c.entry.hash, i);
+        let free = self.free;
+        part(self.cells, self.heads, i, c, p, b, free);
+        self.free = Link::to(i);
+        self.held -= 1;
         Some(c.entry)
+    }
+
+    /// Another content for the entry of cell i: the entry as it was, if the cell is held.
+    pub fn replace(&mut self, i: usize, content: Content<Value>) -> Option<Entry<Key, Value>>
+        ensures { Renewed (state self.old) (state self.new) i content result }
+    {
+        let c = self.held_cell(i)?;
+        let entry = c.entry.renewed(content);
+        put(self.cells, i, Cell { entry, ..c });
+        Some(c.entry)
+    }
+
+    /// The entry of cell i, if it is held.
+    pub fn get(&self, i: usize) -> Option<Entry<Key, Value>>
+        ensures { result ≡ entry_at (state self.now) i }
+    {
+        Some(self.held_cell(i)?.entry)
     }
 
     /// Gives every cell up.
@@ -141,8 +116,8 @@ impl<Key: Copy, Value: Copy> Table<'_, Key, Value> {
         ensures { Emptied (state self.old).cs (length (state self.old).hs) (state self.new) }
     {
         clear_heads(self.heads);
-        self.used = 0;
         self.free = Link::none();
+        self.used = 0;
         self.held = 0;
     }
 }

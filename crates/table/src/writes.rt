@@ -1,88 +1,88 @@
-//! The writes that each call is made of: each says which state it leaves.
-ghost use Rattle.std.specs.Prelude.{◌≡◌, ◌+◌, ◌^◌, ◌<◌, length, Some, None, slice_set};
-ghost use Rattle.links.specs.Links.{most};
-ghost use Rattle.table.specs.Chain.{state};
-ghost use Rattle.table.specs.Edits.{with_cells, join_state, relinked, vacated};
+//! The writes that a call is made of: each says what memory it leaves.
+ghost use Rattle.std.specs.Prelude.{◌≡◌, ℕ, ◌<◌, length, slice_set, None};
+ghost use Rattle.std.specs.List.{slice_get};
+ghost use Rattle.links.specs.Links.{most, to_place};
+ghost use Rattle.links.specs.Places.{pick};
+ghost use Rattle.table.specs.Chain.{head_of};
+ghost use Rattle.table.specs.Edits.{edited, edited_at, chain_to, filled, emptied, link_or};
 
-use crate::cell::{Cell, Entry};
-use crate::chained::Table;
+use crate::cell::{Cell, Entry, cell_at};
 use links::Link;
 
-impl<Key: Copy, Value: Copy> Table<'_, Key, Value> {
-    /// Writes cell i whole.
-    pub(crate) fn put(&mut self, i: usize, cell: Cell<Key, Value>)
-        requires { i < length (state self.old).cs }
-        ensures { state self.new ≡ with_cells (state self.old) (slice_set (state self.old).cs i cell) }
-    {
-        self.cells[i] = cell;
-    }
+/// Leaves every chain of a head without a cell.
+pub fn clear_heads(heads: &mut [Link])
+    ensures { (b : ℕ) → head_of heads.new b ≡ None }
+{
+    heads.fill(Link::none());
+}
 
-    /// Cell i to the front of the chain of its hash, with this entry.
-    pub(crate) fn join(&mut self, i: usize, entry: Entry<Key, Value>)
-        requires here { i < length (state self.old).cs }
-        requires small { i < most }
-        requires some { 0 < length (state self.old).hs }
-        requires room { (state self.old).held + 1 < 2 ^ 64 }
-        ensures { state self.new ≡ join_state (state self.old) i entry }
-    {
-        let b = self.bucket(entry.hash);
-        let chain = self.head(b);
-        self.put(
-            i,
-            Cell {
-                entry,
-                held: true,
-                chain,
-            },
-        );
-        self.heads[b] = Link::to(i);
-        self.held += 1;
-    }
+/// Writes cell i whole.
+pub(crate) fn put<Key: Copy, Value: Copy>(
+    cells: &mut [Cell<Key, Value>],
+    i: usize,
+    cell: Cell<Key, Value>,
+)
+    requires { i < length cells.old }
+    ensures { cells.new ≡ slice_set cells.old i cell }
+{
+    cells[i] = cell;
+}
 
-    /// The link of cell i goes where `to` goes.
-    fn put_chain(&mut self, i: usize, to: Link)
-        ensures { state self.new ≡ relinked (state self.old) (Some i) 0 to }
-    {
-        let Some(c) = self.cell(i) else {
-            return;
-        };
-        self.put(
-            i,
-            Cell {
-                entry: c.entry,
-                held: c.held,
-                chain: to,
-            },
-        );
-    }
+/// Cell i to the front of chain b, with this entry.
+pub(crate) fn join<Key: Copy, Value: Copy>(
+    cells: &mut [Cell<Key, Value>],
+    heads: &mut [Link],
+    i: usize,
+    b: usize,
+    entry: Entry<Key, Value>,
+)
+    requires here { i < length cells.old }
+    requires small { i < most }
+    requires chain { b < length heads.old }
+    ensures cells { cells.new ≡ slice_set cells.old i (filled entry (link_or (slice_get heads.old b))) }
+    ensures heads { heads.new ≡ slice_set heads.old b (to_place i) }
+{
+    let chain = heads[b];
+    cells[i] = Cell {
+        entry,
+        held: true,
+        chain,
+    };
+    heads[b] = Link::to(i);
+}
 
-    /// The link behind cell p, or head b where there is no such cell, goes where `to` goes.
-    pub(crate) fn relink(&mut self, p: Option<usize>, b: usize, to: Link)
-        requires { b < length (state self.old).hs }
-        ensures { state self.new ≡ relinked (state self.old) p b to }
-    {
-        match p {
-            None => self.heads[b] = to,
-            Some(q) => self.put_chain(q, to),
-        }
+/// The link of cell i goes where `to` goes.
+fn link<Key: Copy, Value: Copy>(cells: &mut [Cell<Key, Value>], i: usize, to: Link)
+    ensures { cells.new ≡ edited (chain_to to) cells.old i }
+{
+    if let Some(c) = cell_at(cells, i) {
+        put(cells, i, Cell { chain: to, ..c });
     }
+}
 
-    /// Cell i, which had this entry, to the front of the free cells.
-    pub(crate) fn vacate(&mut self, i: usize, entry: Entry<Key, Value>)
-        requires here { i < length (state self.old).cs }
-        requires small { i < most }
-        ensures { state self.new ≡ vacated (state self.old) i entry }
-    {
-        let chain = self.free;
-        self.put(
-            i,
-            Cell {
-                entry,
-                held: false,
-                chain,
-            },
-        );
-        self.free = Link::to(i);
-        self.held = self.held.saturating_sub(1);
+/// Cell i, which is c, out of chain b, where p stands before it, and to the front of the free cells, which start
+/// at `free`.
+pub(crate) fn part<Key: Copy, Value: Copy>(
+    cells: &mut [Cell<Key, Value>],
+    heads: &mut [Link],
+    i: usize,
+    c: Cell<Key, Value>,
+    p: Option<usize>,
+    b: usize,
+    free: Link,
+)
+    requires here { i < length cells.old }
+    requires chain { b < length heads.old }
+    ensures cells { cells.new ≡ slice_set (edited_at (chain_to c.chain) cells.old p) i (emptied c.entry free) }
+    ensures heads { heads.new ≡ pick p (slice_set heads.old b c.chain) heads.old }
+{
+    match p {
+        None => heads[b] = c.chain,
+        Some(q) => link(cells, q, c.chain),
     }
+    cells[i] = Cell {
+        held: false,
+        chain: free,
+        ..c
+    };
 }

@@ -1,16 +1,17 @@
-use Rattle.std.proofs.Common.{length, ap}
-use Rattle.table.specs.Chain.{state, entry_at}
-use Rattle.index.specs.Meaning.{parts, entries, capacity_in, held_in}
+use Rattle.table.specs.Chain.{entry_at}
+use Rattle.table.specs.Meaning.{state}
+use Rattle.table.proofs.Soundness as sound
+use Rattle.index.specs.Meaning.{entries, capacity_in, held_in}
 use Rattle.index.proofs.Lawfulness.{none_lawful}
 use Rattle.index.proofs.Layouts.{layout}
-use Rattle.index.proofs.Counting.{held_none, same_capacity}
+use Rattle.index.proofs.Counting.{held_none, emptied_capacity}
 use Rattle.index.proofs.kept.Index.clear.Goals as goal
 
 pub invariant_of-self : goal.invariant_of-self
-invariant_of-self g c = record { ok = ∣ c.clear.ensures.sound ∣₁ }
+invariant_of-self g c = record { laid = ∣ layout _ (sound.whole c.clear.new.self) ∣₁ }
 
 pub returns : goal.returns
-unfolding parts entries capacity_in held_in
+unfolding entries capacity_in held_in
 returns g c =
     let e = c.clear.ensures in
     let t = state c.clear.new.self in
@@ -18,7 +19,6 @@ returns g c =
     record {
       holds = e.entries;
       held = held_none t e.entries;
-      capacity = same_capacity (state c.args.self.now.table) t (ap length e.cells) e.heads;
+      capacity = emptied_capacity _ _ t e;
       lawful = none_lawful m.alike m.hashed m.weighs (entry_at t) e.entries;
-      layout = layout t e.sound;
     }
