@@ -3,6 +3,7 @@ ghost use Rattle.std.specs.Prelude.{◌≡◌};
 ghost use Rattle.script.specs.Numerals.{with_digit, numeral};
 
 /// The number that a word says, where it is one below 2^64.
+// The library's `parse` reads text and takes a sign, which no number of a script has.
 pub fn number(word: &[u8]) -> Option<u64>
     ensures { result ≡ numeral word.now }
 {

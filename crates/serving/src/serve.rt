@@ -47,7 +47,7 @@ impl Part for Nothing {
         desk: &mut Desk<R, W, E>,
         command: Command,
     ) -> io::Result<()> {
-        complain_of(desk, command)
+        desk.complain_of(command)
     }
 }
 
@@ -59,7 +59,7 @@ impl Part for FrequencySketch<'_> {
     ) -> io::Result<()> {
         match command {
             Command::Sketch(asked) => desk.say(ask_sketch(self, asked)),
-            _ => complain_of(desk, command),
+            _ => desk.complain_of(command),
         }
     }
 }
@@ -72,94 +72,78 @@ impl Part for Deque<'_, u64> {
     ) -> io::Result<()> {
         match command {
             Command::Queue(asked) => desk.say(ask_queue(self, asked)),
-            Command::ListQueue => list(desk, self),
-            _ => complain_of(desk, command),
+            Command::ListQueue => desk.list(self),
+            _ => desk.complain_of(command),
         }
     }
 }
 
-/// Complains of a command of a part that is not at hand.
-fn complain_of<R: BufRead, W: Write, E: Write>(
-    desk: &mut Desk<R, W, E>,
-    command: Command,
-) -> io::Result<()> {
-    desk.complain(match command {
-        Command::Sketch(_) | Command::MakeSketch(_) => Fault::NoSketch,
-        Command::Queue(_) | Command::MakeQueue(_) | Command::ListQueue => Fault::NoQueue,
-    })
-}
-
-/// Writes the linked nodes with their elements, front first.
-fn list<R: BufRead, W: Write, E: Write>(
-    desk: &mut Desk<R, W, E>,
-    queue: &Deque<u64>,
-) -> io::Result<()> {
-    desk.begin_list()?;
-    let mut at = queue.peek_front().map(|(node, _)| node);
-    for _ in 0..queue.len() {
-        let Some(node) = at else {
-            break;
-        };
-        if let Ok(element) = queue.get(node) {
-            desk.list_item(Item { node, element })?;
+impl<R: BufRead, W: Write, E: Write> Desk<R, W, E> {
+    /// Answers lines with a part at hand, and says what is made then, if anything is; a queue is lent `most` nodes at most.
+    fn serve<P: Part>(&mut self, most: usize, part: &mut P) -> io::Result<Option<Making>> {
+        for _ in 0..u64::MAX {
+            match self.next_request(most)? {
+                None => break,
+                Some(Request::Made(making)) => return Ok(Some(making)),
+                Some(Request::Asked(command)) => part.answer(self, command)?,
+            }
         }
-        at = queue.next(node).ok().flatten();
+        Ok(None)
     }
-    desk.end_list()
-}
 
-/// Answers lines with a part at hand, and says what is made then, if anything is; a queue is lent `most` nodes at most.
-fn serve<R: BufRead, W: Write, E: Write, P: Part>(
-    desk: &mut Desk<R, W, E>,
-    most: usize,
-    part: &mut P,
-) -> io::Result<Option<Making>> {
-    for _ in 0..u64::MAX {
-        match next_request(desk, most)? {
-            None => break,
-            Some(Request::Made(making)) => return Ok(Some(making)),
-            Some(Request::Asked(command)) => part.answer(desk, command)?,
-        }
-    }
-    Ok(None)
-}
-
-/// The next request, unless the script is at its end. Makings are answered here; a queue is lent `most` nodes at most.
-fn next_request<R: BufRead, W: Write, E: Write>(
-    desk: &mut Desk<R, W, E>,
-    most: usize,
-) -> io::Result<Option<Request>> {
-    for _ in 0..u64::MAX {
-        match desk.next()? {
-            None => break,
-            Some(Command::MakeSketch(count)) => return Ok(Some(Request::Made(make_sketch(
-                desk, count,
-            )?))),
-            Some(Command::MakeQueue(count)) => {
-                if count <= most as u64 {
-                    desk.say(Answer::Made)?;
+    /// The next request, unless the script is at its end. Makings are answered here; a queue is lent `most` nodes at most.
+    fn next_request(&mut self, most: usize) -> io::Result<Option<Request>> {
+        for _ in 0..u64::MAX {
+            match self.next()? {
+                None => break,
+                Some(Command::MakeSketch(count)) => {
+                    let making = self.make_sketch(count as usize)?;
+                    return Ok(Some(Request::Made(making)));
+                }
+                Some(Command::MakeQueue(count)) if count <= most as u64 => {
+                    self.say(Answer::Made)?;
                     return Ok(Some(Request::Made(Making::Queue(count as usize))));
                 }
-                desk.complain(Fault::TooLarge)?;
+                Some(Command::MakeQueue(_)) => self.complain(Fault::TooLarge)?,
+                Some(command) => return Ok(Some(Request::Asked(command))),
             }
-            Some(command) => return Ok(Some(Request::Asked(command))),
+        }
+        Ok(None)
+    }
+
+    /// Answers the making of a sketch: one with no word where the number of words is refused.
+    fn make_sketch(&mut self, count: usize) -> io::Result<Making> {
+        if FrequencySketch::opens_over(count) {
+            self.say(Answer::Made)?;
+            Ok(Making::Sketch(count))
+        } else {
+            self.say(Answer::Refused(Refusal::SketchWords))?;
+            Ok(Making::Sketch(0))
         }
     }
-    Ok(None)
-}
 
-/// Answers the making of a sketch: one with no word where the number of words is refused.
-fn make_sketch<R: BufRead, W: Write, E: Write>(
-    desk: &mut Desk<R, W, E>,
-    count: u64,
-) -> io::Result<Making> {
-    let count = count as usize;
-    if FrequencySketch::opens_over(count) {
-        desk.say(Answer::Made)?;
-        Ok(Making::Sketch(count))
-    } else {
-        desk.say(Answer::Refused(Refusal::SketchWords))?;
-        Ok(Making::Sketch(0))
+    /// Complains of a command of a part that is not at hand.
+    fn complain_of(&mut self, command: Command) -> io::Result<()> {
+        self.complain(match command {
+            Command::Sketch(_) | Command::MakeSketch(_) => Fault::NoSketch,
+            Command::Queue(_) | Command::MakeQueue(_) | Command::ListQueue => Fault::NoQueue,
+        })
+    }
+
+    /// Writes the linked nodes with their elements, front first.
+    fn list(&mut self, queue: &Deque<u64>) -> io::Result<()> {
+        self.begin_list()?;
+        let mut at = queue.peek_front().map(|(node, _)| node);
+        for _ in 0..queue.len() {
+            let Some(node) = at else {
+                break;
+            };
+            if let Ok(element) = queue.get(node) {
+                self.list_item(Item { node, element })?;
+            }
+            at = queue.next(node).ok().flatten();
+        }
+        self.end_list()
     }
 }
 
@@ -170,17 +154,17 @@ pub fn run<R: BufRead, W: Write, E: Write>(
     nodes: &mut [Node<u64>],
 ) -> io::Result<()> {
     let most = nodes.len();
-    let mut made = serve(desk, most, &mut Nothing)?;
+    let mut made = desk.serve(most, &mut Nothing)?;
     for _ in 0..u64::MAX {
         made = match made {
             None => break,
             Some(Making::Sketch(count)) => {
                 let lent = words.len().min(count);
-                serve(desk, most, &mut FrequencySketch::new(&mut words[0..lent]))?
+                desk.serve(most, &mut FrequencySketch::new(&mut words[0..lent]))?
             }
             Some(Making::Queue(count)) => {
                 let lent = most.min(count);
-                serve(desk, most, &mut Deque::new(&mut nodes[0..lent]))?
+                desk.serve(most, &mut Deque::new(&mut nodes[0..lent]))?
             }
         };
     }
