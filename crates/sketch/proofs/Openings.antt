@@ -1,7 +1,7 @@
 -- Shows what opening comes to in each of its cases, and that the table which it makes has the least power of two of words.
 use Rattle.std.proofs.Common.{◌≡◌, ℕ, ◌<◌, ◌≤◌, true, false, ◌&&◌, min, max, eqb, ltb, leb, length, sym, ap, ◌∙◌, subst, arith, pow_pos, eqb-true}
 use Rattle.std.proofs.lemmas.List.{length-replicate}
-use Rattle.std.proofs.lemmas.Bool.{le-leb, lt-leb, leb-true, lt-ltb, le-ltb, and_parts, and_right}
+use Rattle.std.proofs.lemmas.Bool.{le-leb, leb-true, lt-ltb, le-ltb, and_parts, and_right}
 use Rattle.sketch.specs.Powers.{least_power, LeastPower}
 use Rattle.sketch.specs.Sketches.{Sketch, closed, opens_over, made_for, fresh, opened, ensured}
 use Rattle.sketch.proofs.Powers.{least_power_is, least_within}
@@ -13,14 +13,6 @@ opening_words t o =
     let a = and_parts (leb 128 t && leb t 8192) (eqb (least_power t) t) o in
     let b = and_parts (leb 128 t) (leb t 8192) a.0 in
     (leb-true 128 t b.0, leb-true t 8192 b.1, eqb-true (least_power t) t a.1)
-
-pub too_few : (t : ℕ) → t < 128 → opens_over t ≡ false
-unfolding opens_over
-too_few t h = rw (lt-leb 128 t h)
-
-pub too_many : (t : ℕ) → 8192 < t → opens_over t ≡ false
-unfolding opens_over
-too_many t h = rw (and_right (leb 128 t) (leb t 8192) (lt-leb t 8192 h))
 
 pub in_range : (t : ℕ) → 128 ≤ t → t ≤ 8192 → eqb (least_power t) t ≡ opens_over t
 unfolding opens_over
