@@ -1,12 +1,11 @@
 -- Shows where the four counters of a hash stand, what raising them one after the other does, and that nothing rises where all are full.
 use Rattle.std.proofs.Common.{◌≡◌, ℕ, zero, suc, ◌+◌, ◌-◌, ◌*◌, ◌/◌, ◌%◌, ◌^◌, ◌<◌, ◌≤◌, Bool, false, ◌||◌, ltb, ◌≢◌, List, [], ◌++◌, map, length, get_or, take, drop, set, sym, refl, ap, ◌∙◌, add-one, arith, length-set}
-use native.Mathlib.Nat.{zero-div}
 use Rattle.std.proofs.lemmas.Nat.{mul-mod_first}
 use lib.Bits.{bit_and, and_mask}
 use lib.Seq.{set-get_or}
-use Rattle.std.proofs.lemmas.List.{set_past, drop_more, get_or_at, length-map, length-take-le}
+use Rattle.std.proofs.lemmas.List.{set_past}
 use Rattle.std.proofs.lemmas.Bool.Decides.{nat_tests}
-use Rattle.std.proofs.lemmas.Grind.{elements}
+use Rattle.std.proofs.lemmas.Grind.{common_steps, elements}
 use Rattle.sketch.specs.Counters.{counter, raised}
 use Rattle.sketch.specs.Powers.{PowerOfTwo}
 use Rattle.sketch.specs.Tables.{place, number, held, estimate, raised_at, raised_all, rises, mixed, spread}
@@ -15,12 +14,7 @@ use Rattle.sketch.proofs.Word.{counter_lt, counter_raised_other, raised_full}
 -- what the code computes for a place, in a table of a power of two
 pub place_is : (n hash seed : ℕ) → PowerOfTwo n → (a : ℕ) → a ≡ (hash + seed) % 2 ^ 64 * seed % 2 ^ 64
     → bit_and ((a + a / 2 ^ 32) % 2 ^ 64) (n - 1) ≡ spread (mixed hash seed) % n
-place_is n hash seed p a e =
-    let ea : a ≡ mixed hash seed = e ∙ mul-mod_first (hash + seed) seed (2 ^ 64) in
-    ap (λ (x : ℕ). bit_and ((x + x / 2 ^ 32) % 2 ^ 64) (n - 1)) ea
-    ∙ ap (λ (x : ℕ). bit_and (spread (mixed hash seed)) (x - 1)) p.1
-    ∙ and_mask (spread (mixed hash seed)) p.0
-    ∙ ap (λ (x : ℕ). spread (mixed hash seed) % x) (sym p.1)
+place_is n hash seed p a e = grind (arith, mul-mod_first, and_mask, p)
 
 -- ---- the loops over the depths
 
@@ -95,24 +89,13 @@ number_is hash depth = ap (λ (x : ℕ). 4 * x + depth) (and_mask hash 2)
 -- ---- the loop that halves
 
 pub front_at : (f : ℕ → ℕ) (xs ys : List ℕ) (i : ℕ) → i < length xs → ys ≡ map f (take i xs) ++ drop i xs → get_or ys i 0 ≡ get_or xs i 0
-front_at f xs ys i h e =
-    let l : i ≤ length xs = omega arith in
-    ap (λ (l : List ℕ). get_or l i 0) (e ∙ ap (λ (r : List ℕ). map f (take i xs) ++ r) (drop_more xs i 0 h))
-    ∙ get_or_at (map f (take i xs)) (get_or xs i 0) (drop (i + 1) xs) 0 i (length-map (take i xs) f ∙ length-take-le i xs l)
+front_at f xs ys i h e = grind (arith, common_steps, elements)
 
 -- ---- without words
 
-counter_of_zero : (k : ℕ) → counter 0 k ≡ 0
-unfolding counter
-counter_of_zero k = ap (λ (x : ℕ). x % 16) (zero-div (2 ^ (4 * k)))
-
-held_nil : (hash depth : ℕ) → held [] hash depth ≡ 0
-unfolding held
-held_nil hash depth = counter_of_zero (number hash depth)
-
 pub estimate_nil : (hash : ℕ) → estimate [] hash ≡ 0
-unfolding estimate
-estimate_nil hash = omega (arith, held_nil hash 0)
+unfolding estimate held counter
+estimate_nil hash = grind arith
 
 -- ---- nothing rises where all four are 15
 

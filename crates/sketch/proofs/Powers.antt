@@ -1,6 +1,7 @@
 -- Shows that `least_power` is the least power of two not below a number, and that what `next_power_of_two` promises pins it.
-use Rattle.std.proofs.Common.{◌≡◌, ℕ, zero, suc, ◌+◌, ◌*◌, ◌/◌, ◌%◌, ◌^◌, ◌<◌, ◌≤◌, max, ◌≢◌, ◌==◌, sym, refl, ap, ◌∙◌, subst, ⊎_elim, le_refl, mul_assoc, pow-suc, arith, pow_pos, pow_mono}
-use Rattle.std.proofs.lemmas.Bool.{lt-ltb, le-ltb, eq-eqb, ne_eqb, cases_lt, cases_eq}
+use Rattle.std.proofs.Common.{◌≡◌, ℕ, zero, suc, ◌+◌, ◌*◌, ◌/◌, ◌%◌, ◌^◌, ◌<◌, ◌≤◌, max, ◌==◌, refl, ap, ◌∙◌, subst, ⊎_elim, mul_assoc, pow-suc, arith, pow_pos, pow_mono}
+use Rattle.std.proofs.lemmas.Bool.Decides.{nat_tests}
+use Rattle.std.proofs.lemmas.Bool.{lt-ltb, le-ltb, cases_lt}
 use Rattle.std.proofs.Math.Nat.{mul_right_comm}
 use Rattle.std.proofs.lemmas.Nat.{ones_cat, ones_le_self, zero_from_ones}
 use Rattle.std.specs.Int.Count.{ones, ones_step}
@@ -75,14 +76,4 @@ power_in (suc n) t h e =
 
 -- `is_power_of_two` says whether a number is its own least power of two
 pub power_test : (t : ℕ) → (ones t == 1) ≡ (least_power t == t)
-power_test t =
-    ⊎_elim
-    (λ (e : ones t ≡ 1).
-    let p = power_in t t (le_refl t) e in
-    let i = least_power_is t in
-    let l : least_power t ≡ t = omega (arith, i.enough, i.least p.0 (let q : t ≤ 2 ^ p.0 = omega (arith, p.1) in q), p.1) in
-    eq-eqb (ones t) 1 e ∙ sym (eq-eqb (least_power t) t l))
-    (λ (e : ones t ≢ 1).
-    let n : least_power t ≢ t = λ q. let i = (least_power_is t).power in e (ap ones (sym q ∙ i.1) ∙ one_bit i.0) in
-    ne_eqb (ones t) 1 e ∙ sym (ne_eqb (least_power t) t n))
-    (cases_eq (ones t) 1)
+power_test t = grind (arith, nat_tests, least_power_is t, power_in t t, one_bit)

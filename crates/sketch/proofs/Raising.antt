@@ -1,10 +1,9 @@
 -- Shows what raising the four counters of a hash does to each counter of the table: the four rise by one up to 15, the others
 -- stay, none falls.
-use Rattle.std.proofs.Common.{◌≡◌, ℕ, zero, suc, ◌+◌, ◌<◌, ◌≤◌, min, List, length, get_or, set, sym, refl, ap, ◌∙◌, ⊎_elim, le_refl, arith, length-set}
+use Rattle.std.proofs.Common.{◌≡◌, ℕ, zero, suc, ◌+◌, ◌<◌, ◌≤◌, min, List, length, get_or, set, sym, refl, ap, ◌∙◌, le_refl, arith, length-set}
 use Rattle.std.proofs.lemmas.List.{set_past}
 use Rattle.std.proofs.lemmas.Nat.{mod_below}
 use Rattle.std.proofs.lemmas.Grind.{elements}
-use Rattle.std.proofs.lemmas.Bool.{cases_eq}
 use Rattle.sketch.specs.Counters.{counter, raised}
 use Rattle.sketch.specs.Tables.{place, number, held, raised_at, raised_all}
 use Rattle.sketch.specs.Sketches.{Sketch}
@@ -29,14 +28,7 @@ raised_at_self ws hash d h = grind (arith, elements, mod_below, counter_raised_s
 pub raised_to_self : (ws : List ℕ) (hash n i : ℕ) → 0 < length ws → i < n → held (raised_to ws hash n) hash i ≡ min 15 (held ws hash i + 1)
 unfolding raised_to
 raised_to_self ws hash zero i h l = omega arith
-raised_to_self ws hash (suc n) i h l =
-    ⊎_elim
-    (λ (e : i ≡ n).
-    let pos : 0 < length (raised_to ws hash n) = omega (arith, length_raised_to ws hash n) in
-    ap (held (raised_at (raised_to ws hash n) hash n) hash) e ∙ raised_at_self (raised_to ws hash n) hash n pos
-    ∙ ap (λ (x : ℕ). min 15 (x + 1)) (held_raised_to ws hash n n (le_refl n)) ∙ ap (λ (x : ℕ). min 15 (held ws hash x + 1)) (sym e))
-    (λ e. let s : i < n = omega arith in held_raised_at_other (raised_to ws hash n) hash n i e ∙ raised_to_self ws hash n i h s)
-    (cases_eq i n)
+raised_to_self ws hash (suc n) i h l = grind (arith, raised_at_self, length_raised_to, held_raised_to, held_raised_at_other, raised_to_self ws hash n i h)
 
 -- a counter that is none of those up to n stays
 set_raised_stay : (ws : List ℕ) (p k q j : ℕ) → (q ≡ p → j ≡ k → ⊥) → counter (get_or (set ws p (raised (get_or ws p 0) k)) q 0) j ≡ counter (get_or ws q 0) j
@@ -46,12 +38,7 @@ raised_to_stay : (ws : List ℕ) (hash n j k : ℕ) → ((i : ℕ) → i < n →
     → counter (get_or (raised_to ws hash n) j 0) k ≡ counter (get_or ws j 0) k
 unfolding raised_to raised_at
 raised_to_stay ws hash zero j k f = refl
-raised_to_stay ws hash (suc n) j k f =
-    let x = raised_to ws hash n in
-    let e = length_raised_to ws hash n in
-    let l : n < suc n = omega arith in
-    set_raised_stay x (place (length x) hash n) (number hash n) j k (λ a b. f n l (a ∙ ap (λ (m : ℕ). place m hash n) e) b)
-    ∙ raised_to_stay ws hash n j k (λ i h a b. let h' : i < suc n = omega arith in f i h' a b)
+raised_to_stay ws hash (suc n) j k f = grind (arith, set_raised_stay, length_raised_to, raised_to_stay ws hash n j k, f)
 
 -- a table whose four counters of a hash were raised
 pub raises : (s t : Sketch) (hash : ℕ) → 0 < length s.words → t.words ≡ raised_all s.words hash → Raises s t hash

@@ -1,19 +1,18 @@
 -- Shows the laws of an increment over its outcomes, and over runs of increments: fewer than the sample never halve, and until a
 -- halving a frequency is at least the smaller of 15 and the increments of its hash.
-use Rattle.std.proofs.Common.{◌≡◌, ℕ, ◌+◌, ◌<◌, ◌≤◌, min, Bool, cond, eqb, List, [], ◌∷◌, length, get_or, count_by, ◌≢◌, sym, refl, ap, ◌∙◌, subst, ⊎_elim, arith, pow_pos}
-use Rattle.std.proofs.lemmas.List.{get_or-map, length-replicate}
+use Rattle.std.proofs.Common.{◌≡◌, ℕ, ◌+◌, ◌<◌, ◌≤◌, min, cond, eqb, List, [], ◌∷◌, length, get_or, count_by, ◌≢◌, sym, refl, ap, ◌∙◌, subst, arith, pow_pos}
+use Rattle.std.proofs.lemmas.List.{get_or-map}
 use Rattle.std.proofs.lemmas.List.Sums.{sum_by-cons}
-use Rattle.std.proofs.lemmas.Bool.{eq-eqb, ne_eqb, cases_eq}
 use Rattle.std.proofs.lemmas.Bool.Decides.{nat_tests}
+use Rattle.std.proofs.lemmas.Grind.{common_steps}
 use Rattle.sketch.specs.declared.increment.Increment.{Increment}
 use Rattle.sketch.specs.declared.increment.Increment.TheVariants.{Closed, Full, Counted, Halved}
 use Rattle.sketch.specs.Counters.{counter, halved}
-use Rattle.sketch.specs.Powers.{least_power}
 use Rattle.sketch.specs.Tables.{held, estimate, raised_all, halved_all}
 use Rattle.sketch.specs.Sketches.{Sketch, frequency, fresh, opened, made_for, counted, halved_sketch, outcome, reaches, after, incremented}
 use Rattle.sketch.specs.Laws.{HalvingHalves, IncrementRaises, run, NeverHalves, FewNeverHalve, FrequencyIsAtLeast, EarlyFrequencyIsAtLeast}
 use Rattle.sketch.proofs.Word.{counter_halved}
-use Rattle.sketch.proofs.Depths.{raised_to, raised_to_all, length_raised_to, held_lt, raised_all_full}
+use Rattle.sketch.proofs.Depths.{raised_to_all, length_raised_to, held_lt, raised_all_full}
 use Rattle.sketch.proofs.Powers.{least_power_is}
 use Rattle.sketch.proofs.Raising.{raises, raised_to_self, raised_to_mono}
 use Rattle.sketch.proofs.Cases.{at_closed, at_full, at_counted, at_halved, case_of}
@@ -75,25 +74,12 @@ run_bound s hash i (x ∷ hs) l pos q =
     let n : 0 < length (incremented s x).words = omega (arith, ap length e, length_raised_to s.words x 4) in
     let ih = run_bound (incremented s x) hash i hs l n q.1 in
     let c = sum_by-cons (λ (y : ℕ). cond (eqb hash y) 1 0) x hs in
-    let ew = ap (λ (ws : List ℕ). held ws hash i) e in
-    ⊎_elim
-    (λ (h : hash ≡ x).
-    let one : ◌≡◌ {A = ℕ} (cond (eqb hash x) 1 0) 1 = ap (λ (b : Bool). cond {A = ℕ} b 1 0) (eq-eqb hash x h) in
-    let up : held (raised_to s.words x 4) hash i ≡ min 15 (held s.words hash i + 1) =
-    ap (λ (y : ℕ). held (raised_to s.words y 4) hash i) (sym h) ∙ raised_to_self s.words hash 4 i pos l in
-    omega (arith, ih, c, ew, one, up))
-    (λ h.
-    let none : ◌≡◌ {A = ℕ} (cond (eqb hash x) 1 0) 0 = ap (λ (b : Bool). cond {A = ℕ} b 1 0) (ne_eqb hash x h) in
-    omega (arith, ih, c, ew, none, raised_to_mono s.words x 4 hash i))
-    (cases_eq hash x)
+    grind (arith, nat_tests, e, ih, c, raised_to_self, raised_to_mono)
 
 -- a sketch that was just opened has words
 opened_some : (t c : ℕ) → 0 < length (opened t c).words
 unfolding opened fresh
-opened_some t c =
-    let m = made_for t c in
-    let p = (least_power_is m).power in
-    omega (arith, length-replicate {A = ℕ} (least_power m) 0, pow_pos p.0, p.1)
+opened_some t c = grind (arith, common_steps, (least_power_is (made_for t c)).power, pow_pos)
 
 pub at_least : (s : Sketch) (hash r : ℕ) → r ≡ frequency s hash → FrequencyIsAtLeast r s hash
 unfolding frequency estimate

@@ -132,8 +132,8 @@ odds_le w = odd_ones_le 16 w
 counters_at : (n k w : ℕ) → k < n → get_or (counters n w) k 0 ≡ counter w k
 unfolding counters
 counters_at zero k w h = omega arith
-counters_at (suc n) zero w h = sym (counter_zero w)
-counters_at (suc n) (suc k) w h = let l : k < n = omega arith in counters_at n k (w / 16) l ∙ sym (counter_suc w k)
+counters_at (suc n) zero w h = grind (arith, counter_zero)
+counters_at (suc n) (suc k) w h = grind (arith, counter_suc, counters_at n k (w / 16))
 
 pub get_or_counters : (w k : ℕ) → k < 16 → get_or (counters 16 w) k 0 ≡ counter w k
 get_or_counters w k h = counters_at 16 k w h
