@@ -87,7 +87,6 @@ impl<'a> FrequencySketch<'a> {
     }
 
     /// Whether a sketch opens over this many lent words: a power of two from 128 to 8,192.
-    #[tactic(auto, using(std::proofs::lemmas::Bool::Decides::nat_tests, crate::proofs::Powers::power_test), unfolding(crate::specs::Sketches::opens_over))]
     pub fn opens_over(lent: usize) -> bool
         ensures { result ≡ opens_over lent }
     {
