@@ -27,9 +27,9 @@ pub table_within : (f : FrequencySketch) (m : Meter) → f.meter ≡ Some m → 
 table_within f m e = subst (λ (x : Option Meter). table_len x ≤ length (lent_words f)) e f.fits
 
 -- a sketch is its three parts
-pub same_sketch : (w v : List ℕ) (a b m n : ℕ) → w ≡ v → a ≡ b → m ≡ n
+pub same_sketch : {w v : List ℕ} {a b m n : ℕ} → w ≡ v → a ≡ b → m ≡ n
     → ◌≡◌ {A = Sketch} (record { words = w; sample = a; size = m }) (record { words = v; sample = b; size = n })
-same_sketch w v a b m n p q r = cc
+same_sketch p q r = cc
 
 -- nothing written
 front_beyond : (o : Option Meter) (ws : List ℕ) → table_len o ≤ length ws → ws ≡ (sketch_in o ws).words ++ drop (length (sketch_in o ws).words) ws

@@ -1,6 +1,7 @@
 -- Shows which of its four outcomes an increment has, and what the sketch then is.
 use Rattle.std.proofs.Common.{◌≡◌, ℕ, ◌+◌, ◌<◌, ◌≤◌, true, false, length, ap, ⊎_elim, arith}
-use Rattle.std.proofs.lemmas.Bool.{le-leb, lt-leb, eq-eqb, ne_eqb, cases_lt, cases_Bool}
+use Rattle.std.proofs.lemmas.Bool.Decides.{nat_tests}
+use Rattle.std.proofs.lemmas.Bool.{cases_lt, cases_Bool}
 use Rattle.sketch.specs.declared.increment.Increment.{Increment}
 use Rattle.sketch.specs.declared.increment.Increment.TheVariants.{Closed, Full, Counted, Halved}
 use Rattle.sketch.specs.Tables.{rises}
@@ -9,19 +10,19 @@ use Rattle.sketch.specs.Sketches.{Sketch, outcome, reaches, after, incremented}
 module _ (s : Sketch) (hash : ℕ) where
   pub is_closed : length s.words ≡ 0 → outcome s hash ≡ Closed
   unfolding outcome
-  is_closed e = rw (eq-eqb (length s.words) 0 e)
+  is_closed e = grind (arith, nat_tests)
 
   pub is_full : 0 < length s.words → rises s.words hash ≡ false → outcome s hash ≡ Full
   unfolding outcome
-  is_full l r = rw (ne_eqb (length s.words) 0 (omega arith), r)
+  is_full l r = grind (arith, nat_tests)
 
   pub is_counted : 0 < length s.words → rises s.words hash ≡ true → s.size + 1 < s.sample → outcome s hash ≡ Counted
   unfolding outcome reaches
-  is_counted l r h = rw (ne_eqb (length s.words) 0 (omega arith), r, lt-leb s.sample (s.size + 1) h)
+  is_counted l r h = grind (arith, nat_tests)
 
   pub is_halved : 0 < length s.words → rises s.words hash ≡ true → s.sample ≤ s.size + 1 → outcome s hash ≡ Halved
   unfolding outcome reaches
-  is_halved l r h = rw (ne_eqb (length s.words) 0 (omega arith), r, le-leb s.sample (s.size + 1) h)
+  is_halved l r h = grind (arith, nat_tests)
 
   -- the sketch after an increment is that of its outcome
   pub incremented_by : (o : Increment) → outcome s hash ≡ o → incremented s hash ≡ after o s hash

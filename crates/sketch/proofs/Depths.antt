@@ -1,11 +1,11 @@
 -- Shows where the four counters of a hash stand, what raising them one after the other does, and that nothing rises where all are full.
-use Rattle.std.proofs.Common.{◌≡◌, ℕ, zero, suc, ◌+◌, ◌-◌, ◌*◌, ◌/◌, ◌%◌, ◌^◌, ◌<◌, ◌≤◌, Bool, false, ◌||◌, ltb, ◌≢◌, List, [], ◌++◌, map, length, get_or, take, drop, set, sym, refl, ap, ◌∙◌, subst, ⊎_elim, add-one, arith, length-set, get_or-set_other, get_or-set_same}
-use native.Mathlib.Nat.{zero-div}
+use Rattle.std.proofs.Common.{◌≡◌, ℕ, zero, suc, ◌+◌, ◌-◌, ◌*◌, ◌/◌, ◌%◌, ◌^◌, ◌<◌, ◌≤◌, Bool, false, ◌||◌, ltb, ◌≢◌, List, [], ◌++◌, map, length, get_or, take, drop, set, sym, refl, ap, ◌∙◌, add-one, arith, length-set}
 use Rattle.std.proofs.lemmas.Nat.{mul-mod_first}
 use lib.Bits.{bit_and, and_mask}
 use lib.Seq.{set-get_or}
-use Rattle.std.proofs.lemmas.List.{set_past, drop_more, get_or_at, length-map, length-take-le}
-use Rattle.std.proofs.lemmas.Bool.{ltb-false, or_parts, cases_lt, cases_eq}
+use Rattle.std.proofs.lemmas.List.{set_past}
+use Rattle.std.proofs.lemmas.Bool.Decides.{nat_tests}
+use Rattle.std.proofs.lemmas.Grind.{common_steps, elements}
 use Rattle.sketch.specs.Counters.{counter, raised}
 use Rattle.sketch.specs.Powers.{PowerOfTwo}
 use Rattle.sketch.specs.Tables.{place, number, held, estimate, raised_at, raised_all, rises, mixed, spread}
@@ -14,12 +14,7 @@ use Rattle.sketch.proofs.Word.{counter_lt, counter_raised_other, raised_full}
 -- what the code computes for a place, in a table of a power of two
 pub place_is : (n hash seed : ℕ) → PowerOfTwo n → (a : ℕ) → a ≡ (hash + seed) % 2 ^ 64 * seed % 2 ^ 64
     → bit_and ((a + a / 2 ^ 32) % 2 ^ 64) (n - 1) ≡ spread (mixed hash seed) % n
-place_is n hash seed p a e =
-    let ea : a ≡ mixed hash seed = e ∙ mul-mod_first (hash + seed) seed (2 ^ 64) in
-    ap (λ (x : ℕ). bit_and ((x + x / 2 ^ 32) % 2 ^ 64) (n - 1)) ea
-    ∙ ap (λ (x : ℕ). bit_and (spread (mixed hash seed)) (x - 1)) p.1
-    ∙ and_mask (spread (mixed hash seed)) p.0
-    ∙ ap (λ (x : ℕ). spread (mixed hash seed) % x) (sym p.1)
+place_is n hash seed p a e = grind (arith, mul-mod_first, and_mask, p)
 
 -- ---- the loops over the depths
 
@@ -63,24 +58,11 @@ length_raised_all ws hash = ap length (sym (raised_to_all ws hash)) ∙ length_r
 
 -- a counter of another number stays
 pub set_raised_other : (ws : List ℕ) (p k q j : ℕ) → j ≢ k → counter (get_or (set ws p (raised (get_or ws p 0) k)) q 0) j ≡ counter (get_or ws q 0) j
-set_raised_other ws p k q j n =
-    ⊎_elim
-    (λ (e : q ≡ p). ⊎_elim
-    (λ h. subst (λ (x : ℕ). counter (get_or (set ws p (raised (get_or ws p 0) k)) x 0) j ≡ counter (get_or ws x 0) j) (sym e)
-    (ap (λ (x : ℕ). counter x j) (get_or-set_same ws p (raised (get_or ws p 0) k) 0 h) ∙ counter_raised_other (get_or ws p 0) k j n))
-    (λ h. ap (λ (l : List ℕ). counter (get_or l q 0) j) (set_past ws p (raised (get_or ws p 0) k) h))
-    (cases_lt p (length ws)))
-    (λ e. ap (λ (x : ℕ). counter x j) (get_or-set_other ws p q (raised (get_or ws p 0) k) 0 e))
-    (cases_eq q p)
+set_raised_other ws p k q j n = grind (arith, elements, counter_raised_other, set_past)
 
 pub held_raised_at_other : (ws : List ℕ) (hash i j : ℕ) → j ≢ i → held (raised_at ws hash i) hash j ≡ held ws hash j
 unfolding held raised_at number
-held_raised_at_other ws hash i j n =
-    let p : ℕ = place (length ws) hash i in
-    let k : ℕ = number hash i in
-    let ne : number hash j ≢ number hash i = λ e. n (omega (arith, e)) in
-    ap (λ (x : ℕ). counter (get_or (set ws p (raised (get_or ws p 0) k)) (place x hash j) 0) (number hash j)) (length-set ws p (raised (get_or ws p 0) k))
-    ∙ set_raised_other ws p k (place (length ws) hash j) (number hash j) ne
+held_raised_at_other ws hash i j n = grind (arith, length-set, set_raised_other)
 
 pub held_raised_to : (ws : List ℕ) (hash n j : ℕ) → n ≤ j → held (raised_to ws hash n) hash j ≡ held ws hash j
 unfolding raised_to
@@ -107,38 +89,16 @@ number_is hash depth = ap (λ (x : ℕ). 4 * x + depth) (and_mask hash 2)
 -- ---- the loop that halves
 
 pub front_at : (f : ℕ → ℕ) (xs ys : List ℕ) (i : ℕ) → i < length xs → ys ≡ map f (take i xs) ++ drop i xs → get_or ys i 0 ≡ get_or xs i 0
-front_at f xs ys i h e =
-    let l : i ≤ length xs = omega arith in
-    ap (λ (l : List ℕ). get_or l i 0) (e ∙ ap (λ (r : List ℕ). map f (take i xs) ++ r) (drop_more xs i 0 h))
-    ∙ get_or_at (map f (take i xs)) (get_or xs i 0) (drop (i + 1) xs) 0 i (length-map (take i xs) f ∙ length-take-le i xs l)
+front_at f xs ys i h e = grind (arith, common_steps, elements)
 
 -- ---- without words
 
-counter_of_zero : (k : ℕ) → counter 0 k ≡ 0
-unfolding counter
-counter_of_zero k = ap (λ (x : ℕ). x % 16) (zero-div (2 ^ (4 * k)))
-
-held_nil : (hash depth : ℕ) → held [] hash depth ≡ 0
-unfolding held
-held_nil hash depth = counter_of_zero (number hash depth)
-
 pub estimate_nil : (hash : ℕ) → estimate [] hash ≡ 0
-unfolding estimate
-estimate_nil hash = omega (arith, held_nil hash 0)
+unfolding estimate held counter
+estimate_nil hash = grind arith
 
 -- ---- nothing rises where all four are 15
 
-raised_at_full : (ws : List ℕ) (hash d : ℕ) → ltb (held ws hash d) 15 ≡ false → raised_at ws hash d ≡ ws
-unfolding raised_at held
-raised_at_full ws hash d h =
-    let p : ℕ = place (length ws) hash d in
-    let l : 15 ≤ counter (get_or ws p 0) (number hash d) = ltb-false (counter (get_or ws p 0) (number hash d)) 15 h in
-    ap (set ws p) (raised_full (get_or ws p 0) (number hash d) l) ∙ set-get_or ws p 0
-
 pub raised_all_full : (ws : List ℕ) (hash : ℕ) → rises ws hash ≡ false → raised_all ws hash ≡ ws
-unfolding raised_all rises
-raised_all_full ws hash h =
-    let a = or_parts ((ltb (held ws hash 0) 15 || ltb (held ws hash 1) 15) || ltb (held ws hash 2) 15) (ltb (held ws hash 3) 15) h in
-    let b = or_parts (ltb (held ws hash 0) 15 || ltb (held ws hash 1) 15) (ltb (held ws hash 2) 15) a.0 in
-    let d = or_parts (ltb (held ws hash 0) 15) (ltb (held ws hash 1) 15) b.0 in
-    rw (raised_at_full ws hash 0 d.0, raised_at_full ws hash 1 d.1, raised_at_full ws hash 2 b.1, raised_at_full ws hash 3 a.1)
+unfolding raised_all rises raised_at held
+raised_all_full ws hash h = grind (arith, nat_tests, raised_full, set-get_or)

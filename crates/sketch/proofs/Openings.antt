@@ -1,7 +1,8 @@
 -- Shows what opening comes to in each of its cases, and that the table which it makes has the least power of two of words.
-use Rattle.std.proofs.Common.{◌≡◌, ℕ, ◌<◌, ◌≤◌, true, false, ◌&&◌, min, max, eqb, ltb, leb, length, sym, ap, ◌∙◌, subst, arith, pow_pos, eqb-true}
+use Rattle.std.proofs.Common.{◌≡◌, ℕ, ◌<◌, ◌≤◌, true, false, min, max, ltb, length, sym, ap, ◌∙◌, subst, arith, pow_pos}
 use Rattle.std.proofs.lemmas.List.{length-replicate}
-use Rattle.std.proofs.lemmas.Bool.{le-leb, lt-leb, leb-true, lt-ltb, le-ltb, and_parts, and_right}
+use Rattle.std.proofs.lemmas.Bool.Decides.{nat_tests}
+use Rattle.std.proofs.lemmas.Bool.{lt-ltb, le-ltb, and_right}
 use Rattle.sketch.specs.Powers.{least_power, LeastPower}
 use Rattle.sketch.specs.Sketches.{Sketch, closed, opens_over, made_for, fresh, opened, ensured}
 use Rattle.sketch.proofs.Powers.{least_power_is, least_within}
@@ -9,22 +10,7 @@ use Rattle.sketch.proofs.Powers.{least_power_is, least_within}
 -- what a number of lent words has over which a sketch opens
 pub opening_words : (t : ℕ) → opens_over t ≡ true → (128 ≤ t) × (t ≤ 8192) × (least_power t ≡ t)
 unfolding opens_over
-opening_words t o =
-    let a = and_parts (leb 128 t && leb t 8192) (eqb (least_power t) t) o in
-    let b = and_parts (leb 128 t) (leb t 8192) a.0 in
-    (leb-true 128 t b.0, leb-true t 8192 b.1, eqb-true (least_power t) t a.1)
-
-pub too_few : (t : ℕ) → t < 128 → opens_over t ≡ false
-unfolding opens_over
-too_few t h = rw (lt-leb 128 t h)
-
-pub too_many : (t : ℕ) → 8192 < t → opens_over t ≡ false
-unfolding opens_over
-too_many t h = rw (and_right (leb 128 t) (leb t 8192) (lt-leb t 8192 h))
-
-pub in_range : (t : ℕ) → 128 ≤ t → t ≤ 8192 → eqb (least_power t) t ≡ opens_over t
-unfolding opens_over
-in_range t a b = rw (le-leb 128 t a, le-leb t 8192 b)
+opening_words t o = grind (arith, nat_tests)
 
 -- the sketch is made for 128 hashes at least, and for no more than there are words
 pub made_within : (t c : ℕ) → 128 ≤ t → (128 ≤ made_for t c) × (made_for t c ≤ t)

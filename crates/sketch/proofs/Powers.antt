@@ -1,6 +1,7 @@
 -- Shows that `least_power` is the least power of two not below a number, and that what `next_power_of_two` promises pins it.
-use Rattle.std.proofs.Common.{◌≡◌, ℕ, zero, suc, ◌+◌, ◌*◌, ◌/◌, ◌%◌, ◌^◌, ◌<◌, ◌≤◌, max, ◌≢◌, ◌==◌, sym, refl, ap, ◌∙◌, subst, ⊎_elim, le_refl, mul_assoc, pow-suc, arith, pow_pos, pow_mono}
-use Rattle.std.proofs.lemmas.Bool.{lt-ltb, le-ltb, eq-eqb, ne_eqb, cases_lt, cases_eq}
+use Rattle.std.proofs.Common.{◌≡◌, ℕ, zero, suc, ◌+◌, ◌*◌, ◌/◌, ◌%◌, ◌^◌, ◌<◌, ◌≤◌, max, ◌==◌, refl, ap, ◌∙◌, subst, ⊎_elim, mul_assoc, pow-suc, arith, pow_pos, pow_mono}
+use Rattle.std.proofs.lemmas.Bool.Decides.{nat_tests}
+use Rattle.std.proofs.lemmas.Bool.{lt-ltb, le-ltb, cases_lt}
 use Rattle.std.proofs.Math.Nat.{mul_right_comm}
 use Rattle.std.proofs.lemmas.Nat.{ones_cat, ones_le_self, zero_from_ones}
 use Rattle.std.specs.Int.Count.{ones, ones_step}
@@ -9,11 +10,7 @@ use Rattle.sketch.specs.Powers.{PowerOfTwo, doubled, least_power, LeastPower}
 
 -- powers are in the order of their exponents
 pub pow_order : (k j : ℕ) → 2 ^ k < 2 ^ j → 2 ^ k * 2 ≤ 2 ^ j
-pow_order k j h =
-    ⊎_elim
-    (λ (l : k < j). let p : 2 ^ suc k ≤ 2 ^ j = pow_mono l in omega (arith, p, pow-suc 2 k))
-    (λ (l : j ≤ k). let p : 2 ^ j ≤ 2 ^ k = pow_mono l in omega (arith, p))
-    (cases_lt k j)
+pow_order k j h = grind (arith, pow-suc 2 k, pow_mono {i = suc k} {j = j}, pow_mono {i = j} {j = k})
 
 below_pow : (m : ℕ) → m ≤ 2 ^ m
 below_pow zero = omega arith
@@ -38,16 +35,7 @@ least_power_is m = doubled_least m 0 m (omega (arith, below_pow m)) (λ j q. ome
 
 -- what `next_power_of_two` promises pins it
 pub least_power_unique : (m r : ℕ) → PowerOfTwo r → m ≤ r → r / 2 < max 1 m → r ≡ least_power m
-least_power_unique m r p l u =
-    let s : ℕ = least_power m in
-    let i = least_power_is m in
-    let le : s ≤ r = rw p.1 (i.least p.0 (rw p.1 at l)) in
-    let pos : 0 < s = omega (arith, pow_pos i.power.0, i.power.1) in
-    ⊎_elim
-    (λ (q : s < r). let b : 2 ^ i.power.0 < 2 ^ p.0 = omega (arith, i.power.1, p.1) in
-    let z : s * 2 ≤ r = omega (arith, pow_order i.power.0 p.0 b, i.power.1, p.1) in absurd (omega (arith, i.enough)))
-    (λ (q : r ≤ s). omega arith)
-    (cases_lt s r)
+least_power_unique m r p l u = grind (arith, least_power_is m, pow_order, pow_pos)
 
 -- the length of a table, as its meter has it, is a power of two
 pub table_power : (n m : ℕ) → n ≡ least_power m → PowerOfTwo n
@@ -55,10 +43,7 @@ table_power n m e = let i = (least_power_is m).power in (i.0, e ∙ i.1)
 
 -- the least power of two for m is within t, a power of two that is not below m
 pub least_within : (m t : ℕ) → m ≤ t → least_power t ≡ t → least_power m ≤ t
-least_within m t h e =
-    let p = (least_power_is t).power in
-    let q : m ≤ 2 ^ p.0 = omega (arith, p.1, e) in
-    omega (arith, (least_power_is m).least p.0 q, p.1, e)
+least_within m t h e = grind (arith, least_power_is m, least_power_is t)
 
 -- an open sketch has words, and its sample is small
 pub table_some : (m : Meter) → 0 < m.table_len
@@ -91,14 +76,4 @@ power_in (suc n) t h e =
 
 -- `is_power_of_two` says whether a number is its own least power of two
 pub power_test : (t : ℕ) → (ones t == 1) ≡ (least_power t == t)
-power_test t =
-    ⊎_elim
-    (λ (e : ones t ≡ 1).
-    let p = power_in t t (le_refl t) e in
-    let i = least_power_is t in
-    let l : least_power t ≡ t = omega (arith, i.enough, i.least p.0 (let q : t ≤ 2 ^ p.0 = omega (arith, p.1) in q), p.1) in
-    eq-eqb (ones t) 1 e ∙ sym (eq-eqb (least_power t) t l))
-    (λ (e : ones t ≢ 1).
-    let n : least_power t ≢ t = λ q. let i = (least_power_is t).power in e (ap ones (sym q ∙ i.1) ∙ one_bit i.0) in
-    ne_eqb (ones t) 1 e ∙ sym (ne_eqb (least_power t) t n))
-    (cases_eq (ones t) 1)
+power_test t = grind (arith, nat_tests, least_power_is t, power_in t t, one_bit)

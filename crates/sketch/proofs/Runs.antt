@@ -1,21 +1,21 @@
 -- Shows the laws of an increment over its outcomes, and over runs of increments: fewer than the sample never halve, and until a
 -- halving a frequency is at least the smaller of 15 and the increments of its hash.
-use Rattle.std.proofs.Common.{◌≡◌, ℕ, ◌+◌, ◌<◌, ◌≤◌, min, Bool, cond, eqb, List, [], ◌∷◌, length, get_or, count_by, sym, refl, ap, ◌∙◌, subst, ⊎_elim, le_refl, arith, pow_pos}
-use Rattle.std.proofs.lemmas.List.{get_or-map, length-replicate}
+use Rattle.std.proofs.Common.{◌≡◌, ℕ, ◌+◌, ◌<◌, ◌≤◌, min, cond, eqb, List, [], ◌∷◌, length, get_or, count_by, ◌≢◌, sym, refl, ap, ◌∙◌, subst, arith, pow_pos}
+use Rattle.std.proofs.lemmas.List.{get_or-map}
 use Rattle.std.proofs.lemmas.List.Sums.{sum_by-cons}
-use Rattle.std.proofs.lemmas.Bool.{eq-eqb, ne_eqb, cases_eq}
+use Rattle.std.proofs.lemmas.Bool.Decides.{nat_tests}
+use Rattle.std.proofs.lemmas.Grind.{common_steps}
 use Rattle.sketch.specs.declared.increment.Increment.{Increment}
 use Rattle.sketch.specs.declared.increment.Increment.TheVariants.{Closed, Full, Counted, Halved}
 use Rattle.sketch.specs.Counters.{counter, halved}
-use Rattle.sketch.specs.Powers.{least_power}
-use Rattle.sketch.specs.Tables.{held, estimate, halved_all}
-use Rattle.sketch.specs.Sketches.{Sketch, frequency, fresh, opened, made_for, counted, halved_sketch, outcome, after, incremented}
+use Rattle.sketch.specs.Tables.{held, estimate, raised_all, halved_all}
+use Rattle.sketch.specs.Sketches.{Sketch, frequency, fresh, opened, made_for, counted, halved_sketch, outcome, reaches, after, incremented}
 use Rattle.sketch.specs.Laws.{HalvingHalves, IncrementRaises, run, NeverHalves, FewNeverHalve, FrequencyIsAtLeast, EarlyFrequencyIsAtLeast}
 use Rattle.sketch.proofs.Word.{counter_halved}
-use Rattle.sketch.proofs.Depths.{raised_to, raised_to_all, length_raised_to, held_lt, raised_all_full}
+use Rattle.sketch.proofs.Depths.{raised_to_all, length_raised_to, held_lt, raised_all_full}
 use Rattle.sketch.proofs.Powers.{least_power_is}
 use Rattle.sketch.proofs.Raising.{raises, raised_to_self, raised_to_mono}
-use Rattle.sketch.proofs.Cases.{at_closed, at_full, at_counted, at_halved, case_of, incremented_by}
+use Rattle.sketch.proofs.Cases.{at_closed, at_full, at_counted, at_halved, case_of}
 
 -- ---- one call
 
@@ -42,26 +42,13 @@ increment_raises s hash =
 
 -- an increment leaves the sample, and counts one more at most
 pub size_grows : (s : Sketch) (hash : ℕ) → ((incremented s hash).sample ≡ s.sample) × ((incremented s hash).size ≤ s.size + 1)
-unfolding after counted halved_sketch
-size_grows s hash =
-    let by : (o : Increment) → outcome s hash ≡ o → ((after o s hash).sample ≡ s.sample) × ((after o s hash).size ≤ s.size + 1) → ((incremented s hash).sample ≡ s.sample) × ((incremented s hash).size ≤ s.size + 1) =
-    λ o e p. (ap (λ (x : Sketch). x.sample) (incremented_by s hash o e) ∙ p.0, omega (arith, ap (λ (x : Sketch). x.size) (incremented_by s hash o e), p.1)) in
-    elim (case_of s hash) [
-      | at_closed l e ↦ by Closed e (refl, omega arith)
-      | at_full l r e ↦ by Full e (refl, omega arith)
-      | at_counted l r h e ↦ by Counted e (refl, le_refl (s.size + 1))
-      | at_halved l r h e ↦ by Halved e (refl, omega arith)
-    ]
+unfolding incremented outcome after counted halved_sketch
+size_grows s hash = grind (arith, nat_tests)
 
 -- where the sample has room for one more, an increment does not halve
-pub room_never_halves : (s : Sketch) (hash : ℕ) → s.size + 1 < s.sample → outcome s hash ≡ Halved → ⊥
-room_never_halves s hash h q =
-    elim (case_of s hash) [
-      | at_closed l e ↦ let z : ◌≡◌ {A = ℕ} 0 1 = cc in omega arith
-      | at_full l r e ↦ let z : ◌≡◌ {A = ℕ} 0 1 = cc in omega arith
-      | at_counted l r k e ↦ let z : ◌≡◌ {A = ℕ} 0 1 = cc in omega arith
-      | at_halved l r k e ↦ omega arith
-    ]
+pub room_never_halves : (s : Sketch) (hash : ℕ) → s.size + 1 < s.sample → outcome s hash ≢ Halved
+unfolding outcome reaches
+room_never_halves s hash h q = grind (arith, nat_tests)
 
 few : (s : Sketch) (hs : List ℕ) → s.size + length hs < s.sample → NeverHalves s hs
 few s [] h = tt
@@ -75,43 +62,24 @@ few_never_halve t c hs h = few (opened t c) hs (omega arith)
 
 -- ---- counters over a run that does not halve
 
-inc_words : (s : Sketch) (hash : ℕ) → 0 < length s.words → (outcome s hash ≡ Halved → ⊥) → (incremented s hash).words ≡ raised_to s.words hash 4
-unfolding after counted
-inc_words s hash pos q =
-    elim (case_of s hash) [
-      | at_closed l e ↦ absurd (omega arith)
-      | at_full l r e ↦ ap (λ (x : Sketch). x.words) (incremented_by s hash Full e) ∙ sym (raised_all_full s.words hash r) ∙ sym (raised_to_all s.words hash)
-      | at_counted l r h e ↦ ap (λ (x : Sketch). x.words) (incremented_by s hash Counted e) ∙ sym (raised_to_all s.words hash)
-      | at_halved l r h e ↦ absurd (q e)
-    ]
+inc_words : (s : Sketch) (hash : ℕ) → 0 < length s.words → outcome s hash ≢ Halved → (incremented s hash).words ≡ raised_all s.words hash
+unfolding incremented outcome after counted
+inc_words s hash pos q = grind (arith, nat_tests, raised_all_full)
 
 run_bound : (s : Sketch) (hash i : ℕ) (hs : List ℕ) → i < 4 → 0 < length s.words → NeverHalves s hs
     → min 15 (held s.words hash i + count_by (eqb hash) hs) ≤ held (run s hs).words hash i
 run_bound s hash i [] l pos q = omega (arith, held_lt s.words hash i)
 run_bound s hash i (x ∷ hs) l pos q =
-    let e = inc_words s x pos q.0 in
+    let e = inc_words s x pos q.0 ∙ sym (raised_to_all s.words x) in
     let n : 0 < length (incremented s x).words = omega (arith, ap length e, length_raised_to s.words x 4) in
     let ih = run_bound (incremented s x) hash i hs l n q.1 in
     let c = sum_by-cons (λ (y : ℕ). cond (eqb hash y) 1 0) x hs in
-    let ew = ap (λ (ws : List ℕ). held ws hash i) e in
-    ⊎_elim
-    (λ (h : hash ≡ x).
-    let one : ◌≡◌ {A = ℕ} (cond (eqb hash x) 1 0) 1 = ap (λ (b : Bool). cond {A = ℕ} b 1 0) (eq-eqb hash x h) in
-    let up : held (raised_to s.words x 4) hash i ≡ min 15 (held s.words hash i + 1) =
-    ap (λ (y : ℕ). held (raised_to s.words y 4) hash i) (sym h) ∙ raised_to_self s.words hash 4 i pos l in
-    omega (arith, ih, c, ew, one, up))
-    (λ h.
-    let none : ◌≡◌ {A = ℕ} (cond (eqb hash x) 1 0) 0 = ap (λ (b : Bool). cond {A = ℕ} b 1 0) (ne_eqb hash x h) in
-    omega (arith, ih, c, ew, none, raised_to_mono s.words x 4 hash i))
-    (cases_eq hash x)
+    grind (arith, nat_tests, e, ih, c, raised_to_self, raised_to_mono)
 
 -- a sketch that was just opened has words
 opened_some : (t c : ℕ) → 0 < length (opened t c).words
 unfolding opened fresh
-opened_some t c =
-    let m = made_for t c in
-    let p = (least_power_is m).power in
-    omega (arith, length-replicate {A = ℕ} (least_power m) 0, pow_pos p.0, p.1)
+opened_some t c = grind (arith, common_steps, (least_power_is (made_for t c)).power, pow_pos)
 
 pub at_least : (s : Sketch) (hash r : ℕ) → r ≡ frequency s hash → FrequencyIsAtLeast r s hash
 unfolding frequency estimate

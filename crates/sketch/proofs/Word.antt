@@ -1,9 +1,10 @@
 -- Shows that the code's shifts and masks on a word do to its counters what the definitions say.
-use Rattle.std.proofs.Common.{◌≡◌, ℕ, zero, suc, ◌+◌, ◌*◌, ◌/◌, ◌%◌, ◌^◌, ◌<◌, ◌≤◌, min, ◌≢◌, map, get_or, sym, refl, ap, ◌∙◌, ⊎_elim, div-one, arith, lit<, pow-add, shr-shr}
+use Rattle.std.proofs.Common.{◌≡◌, ℕ, zero, suc, ◌+◌, ◌*◌, ◌/◌, ◌%◌, ◌^◌, ◌<◌, ◌≤◌, min, ◌≢◌, map, get_or, sym, refl, ap, ◌∙◌, div-one, arith, lit<, pow-add, shr-shr}
 use lib.Bits.{bit_and, and_block, and_mask, and_zero_r}
 use lib.Count.{ones, ones_cat, ones_step}
 use Rattle.std.proofs.lemmas.Nat.{one_shl}
-use Rattle.std.proofs.lemmas.Bool.{lt-ltb, le-ltb, cases_lt}
+use Rattle.std.proofs.lemmas.Bool.Decides.{nat_tests}
+use Rattle.std.proofs.lemmas.Bool.{lt-ltb, le-ltb}
 use Rattle.sketch.specs.Counters.{counter, raised, counters, packed, halved, odd_ones, odds}
 
 -- ---- a counter, from the lowest on
@@ -131,8 +132,8 @@ odds_le w = odd_ones_le 16 w
 counters_at : (n k w : ℕ) → k < n → get_or (counters n w) k 0 ≡ counter w k
 unfolding counters
 counters_at zero k w h = omega arith
-counters_at (suc n) zero w h = sym (counter_zero w)
-counters_at (suc n) (suc k) w h = let l : k < n = omega arith in counters_at n k (w / 16) l ∙ sym (counter_suc w k)
+counters_at (suc n) zero w h = grind (arith, counter_zero)
+counters_at (suc n) (suc k) w h = grind (arith, counter_suc, counters_at n k (w / 16))
 
 pub get_or_counters : (w k : ℕ) → k < 16 → get_or (counters 16 w) k 0 ≡ counter w k
 get_or_counters w k h = counters_at 16 k w h
@@ -162,18 +163,12 @@ unfolding raised
 raised_full w k h = rw (le-ltb (counter w k) 15 h)
 
 pub counter_raised_same : (w k : ℕ) → counter (raised w k) k ≡ min 15 (counter w k + 1)
-counter_raised_same w k =
-    ⊎_elim
-    (λ h. ap (λ (x : ℕ). counter x k) (raised_low w k h) ∙ omega (arith, up_same k w h))
-    (λ h. ap (λ (x : ℕ). counter x k) (raised_full w k h) ∙ omega (arith, counter_lt w k))
-    (cases_lt (counter w k) 15)
+unfolding raised
+counter_raised_same w k = grind (arith, nat_tests, up_same, counter_lt)
 
 pub counter_raised_other : (w k j : ℕ) → j ≢ k → counter (raised w k) j ≡ counter w j
-counter_raised_other w k j n =
-    ⊎_elim
-    (λ h. ap (λ (x : ℕ). counter x j) (raised_low w k h) ∙ up_other k j w h n)
-    (λ h. ap (λ (x : ℕ). counter x j) (raised_full w k h))
-    (cases_lt (counter w k) 15)
+unfolding raised
+counter_raised_other w k j n = grind (arith, nat_tests, up_other)
 
 -- ---- the code's `word + (1 << (4 * number))`
 

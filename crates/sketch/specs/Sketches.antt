@@ -10,14 +10,6 @@ pub record Sketch : Type 0 where
   pub sample : ℕ
   pub size : ℕ
 
--- the same sketch with other words
-abbrev pub with_words : Sketch → List ℕ → Sketch
-with_words s ws = record { words = ws; sample = s.sample; size = s.size }
-
--- the same sketch with another size
-abbrev pub with_size : Sketch → ℕ → Sketch
-with_size s n = record { words = s.words; sample = s.sample; size = n }
-
 -- a sketch that was not opened has no words
 unfoldable pub closed : Sketch
 closed = record { words = []; sample = 0; size = 0 }

@@ -57,7 +57,7 @@ returns-then-table_len-meter c =
     let h : length (meaning f).words < least_power (made_for t c.args.cap) = omega (arith, c.table_len.ensures, c.if-table_len-meter.true, n) in
     let w : c.fill.new.self ≡ replicate k.table_len 0 = search rules in
     promised f _ c.args.cap (front_written f _ k c.fill.new.self _ (omega (arith, n, e.table_len, i.fits)) refl refl (ap length w ∙ length-replicate k.table_len 0)
-    (same_sketch _ _ _ _ _ _ (w ∙ ap (λ x. replicate x 0) n) (e.sample_size ∙ ap (λ x. 10 * x) i.is) e.size ∙ opens t c.args.cap (meaning f) o h))
+    (same_sketch (w ∙ ap (λ x. replicate x 0) n) (e.sample_size ∙ ap (λ x. 10 * x) i.is) e.size ∙ opens t c.args.cap (meaning f) o h))
 
 pub returns-else-table_len-meter : goal.returns-else-table_len-meter
 returns-else-table_len-meter c =

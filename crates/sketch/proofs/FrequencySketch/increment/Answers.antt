@@ -20,7 +20,7 @@ returns-then-not-raise c =
     let hash = c.args.hash in
     let no = sym c.raise.ensures.rose ∙ c.if-not-raise.true in
     let w = c.raise.ensures.words ∙ raised_all_full _ hash no in
-    promised f k hash c.in-Some.is _ k c.raise.new.table Full (full f k hash c.in-Some.is no) c.in-Some.is refl refl (same_sketch _ _ _ _ _ _ w refl refl)
+    promised f k hash c.in-Some.is _ k c.raise.new.table Full (full f k hash c.in-Some.is no) c.in-Some.is refl refl (same_sketch w refl refl)
 
 pub overflow_add-size : goal.overflow_add-size
 overflow_add-size c = let s = c.in-Some.meter.short in Fits-of_lt (omega (arith, sample_small c.in-Some.meter))
@@ -34,7 +34,7 @@ returns-then-size-meter c =
     let o = counts f k hash c.in-Some.is (sym c.raise.ensures.rose ∙ c.if-not-raise.false) c.if-size-meter.true in
     let e = c.with_size.ensures in
     promised f k hash c.in-Some.is _ c.with_size.result c.raise.new.table Counted o refl e.table_len refl
-    (same_sketch _ _ _ _ _ _ c.raise.ensures.words e.sample_size e.size)
+    (same_sketch c.raise.ensures.words e.sample_size e.size)
 
 pub returns-else-size-meter : goal.returns-else-size-meter
 unfolding after counted halved_sketch
@@ -46,4 +46,4 @@ returns-else-size-meter c =
     let r = c.raise.ensures.words in
     let e = c.halve.ensures in
     promised f k hash c.in-Some.is _ c.halve.result c.halve.new.table Halved o refl e.table_len refl
-    (same_sketch _ _ _ _ _ _ (e.words ∙ ap halved_all r) e.sample_size (e.size ∙ ap (λ (x : List ℕ). (k.size + 1) / 2 - odds_all x / 4) r))
+    (same_sketch (e.words ∙ ap halved_all r) e.sample_size (e.size ∙ ap (λ (x : List ℕ). (k.size + 1) / 2 - odds_all x / 4) r))

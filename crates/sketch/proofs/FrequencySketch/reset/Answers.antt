@@ -23,7 +23,7 @@ returns-in-Some c =
     let l : length c.halve.new.table ≡ c.halve.result.table_len =
     ap length e.words ∙ length-map (take k.table_len (lent_words f)) halved ∙ length-take-le k.table_len (lent_words f) h ∙ sym e.table_len in
     let m = front_written f _ c.halve.result c.halve.new.table _ (omega (arith, h, e.table_len)) refl (rw e.table_len refl) l
-    (same_sketch _ _ _ _ _ _ e.words e.sample_size e.size ∙ ap halved_sketch (sym (open_is f k c.in-Some.is))) in
+    (same_sketch e.words e.sample_size e.size ∙ ap halved_sketch (sym (open_is f k c.in-Some.is))) in
     record { memory = m; halves = at_end (meaning f) _ m.sketch }
 
 pub returns-in_default : goal.returns-in_default

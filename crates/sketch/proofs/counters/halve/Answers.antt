@@ -1,43 +1,17 @@
-use Rattle.std.proofs.Common.{ℕ, ◌<◌, ◌≤◌, map, length, get_or, set, sum_by, ap, ◌∙◌, arith}
-use mir.Facts.{Fits-of_lt}
-use Rattle.std.proofs.lemmas.List.{take_all, drop_all, append-nil, get_or_default}
-use Rattle.std.proofs.lemmas.List.Sums.{sum_by_more}
+use Rattle.std.proofs.Common.{arith}
+use Rattle.std.proofs.lemmas.Grind.{common_steps}
 use Rattle.std.proofs.lemmas.List.Edits.{map_over_more}
-use Rattle.sketch.specs.Counters.{halved, odds}
 use Rattle.sketch.specs.Tables.{halved_all, odds_all}
 use Rattle.sketch.proofs.Word.{halved_is, odds_is, odds_le}
 use Rattle.sketch.proofs.Depths.{front_at}
 use Rattle.sketch.proofs.counters.halve.Goals as goal
 
 pub overflow_add-odd : goal.overflow_add-odd
-overflow_add-odd c =
-    let w : ℕ = get_or c.loop-word.table c.loop-word.word-index 0 in
-    Fits-of_lt (omega (arith, odds_is w, odds_le w))
+overflow_add-odd c = grind (arith, odds_is, odds_le)
 
 pub loop-word-preserved : goal.loop-word-preserved
-loop-word-preserved c =
-    let xs = c.args.table.now in
-    let ys = c.loop-word.table in
-    let i = c.loop-word.word-index in
-    let h : i < length xs = omega arith in
-    let w : ℕ = get_or ys i 0 in
-    let same = front_at halved xs ys i h c.loop-word.invariant.0 in
-    let o = odds_is w in
-    let h' : i < length ys = omega arith in (
-      ap (set ys i) (halved_is w) ∙ map_over_more halved xs ys i w h c.loop-word.invariant.0 (get_or_default ys i 0 w h'),
-      omega (arith, o, sum_by_more odds xs i 0 h, ap odds same),
-      omega (arith, o, odds_le w),
-    )
+loop-word-preserved c = grind (arith, common_steps, halved_is, odds_is, odds_le, front_at, map_over_more)
 
 pub returns : goal.returns
 unfolding halved_all odds_all
-returns c =
-    let xs = c.args.table.now in
-    let i = c.loop-word.word-index in
-    let l : length xs ≤ i = omega arith in
-    let t = take_all i xs l in
-    let d = drop_all i xs l in
-    record {
-      words = c.loop-word.invariant.0 ∙ rw (t, d) (append-nil (map halved xs));
-      odd = c.loop-word.invariant.1 ∙ ap (sum_by odds) t;
-    }
+returns c = grind (arith, common_steps)
