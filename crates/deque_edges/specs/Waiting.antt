@@ -1,19 +1,15 @@
 -- Who waits at a desk.
-use Rattle.std.specs.Prelude.{◌≡◌, ℕ, Bool, false, cond, List, length, Some, None, Option, nat_lt, slice_index}
+use Rattle.std.specs.Prelude.{ℕ, Bool, false, cond, List, length, Some, None, Option, nat_lt, slice_index}
 use Rattle.deque.specs.Meaning.{items, lent, free}
-use Rattle.deque_edges.specs.declared.parts.Parts.{Parts}
+use Rattle.deque_edges.specs.declared.Desk.{Desk}
 
 -- those who wait, the first to be served in front, each with the time of coming
-abbrev pub line_of : Parts → List (ℕ × ℕ)
-line_of p = items p.line.now
-
--- as many wait as are counted
-abbrev pub Counted : Parts → Type 0
-Counted p = p.waiting ≡ length (line_of p)
+abbrev pub line_of : Desk → List (ℕ × ℕ)
+line_of d = items d.line.now
 
 -- whether number i can join the line: it has a name, and a place that is free
-abbrev pub can_come : Parts → ℕ → Bool
-can_come p i = cond (nat_lt i (length p.names.now)) (free (lent p.line.now) (line_of p) i) false
+abbrev pub can_come : Desk → ℕ → Bool
+can_come d i = cond (nat_lt i (length d.names.now)) (free (lent d.line.now) (line_of d) i) false
 
 -- the name of number i
 abbrev pub name_at : List ℕ → ℕ → Option ℕ

@@ -1,107 +1,64 @@
 //! What a desk does.
 ghost use Rattle.std.specs.Prelude.{◌≡◌, ℕ, ◌<◌, length, if◌then◌else◌, Some, slice_set};
 ghost use Rattle.deque.specs.Meaning.{items, lent, pushed, front, rest};
-ghost use Rattle.deque_edges.specs.Waiting.{line_of, Counted, can_come, called};
+ghost use Rattle.deque_edges.specs.Waiting.{line_of, can_come, called};
 
-use crate::desk::Desk;
-use crate::parts::Parts;
+use crate::Desk;
 use deque::Deque;
 use deque::node::Node;
 
 /// A desk over a line that was made elsewhere, with whoever waits in it.
 pub fn open<'b, 'q, 'n>(names: &'b mut [u64], line: &'q mut Deque<'n, u32>) -> Desk<'b, 'q, 'n>
-    ensures line { line_of result.parts ≡ items line.old }
-    ensures room { lent result.parts.line.now ≡ lent line.old }
-    ensures names { result.parts.names.now ≡ names.old }
+    ensures line { line_of result ≡ items line.old }
+    ensures room { lent result.line.now ≡ lent line.old }
+    ensures names { result.names.now ≡ names.old }
 {
     let waiting = line.len();
     Desk {
-        parts: Parts {
-            names,
-            line,
-            waiting,
-        },
-    }
-}
-
-impl<'b, 'q, 'n> Parts<'b, 'q, 'n> {
-    /// Number i, called by this name, joins the line.
-    fn come(&mut self, i: usize, name: u64, at: u32) -> bool
-        requires { Counted self.old }
-        ensures answer { result ≡ can_come self.old i }
-        ensures line { line_of self.new ≡ (if result then pushed (line_of self.old) i at else line_of self.old) }
-        ensures names { self.new.names.now ≡ (if result then slice_set self.old.names.now i name else self.old.names.now) }
-        ensures counted { Counted self.new }
-    {
-        if i >= self.names.len() {
-            return false;
-        }
-        let line: &mut Deque<'n, u32> = &mut *self.line;
-        let joined = line.push_back(i, at);
-        let waiting = line.len();
-        if joined.is_err() {
-            return false;
-        }
-        self.names[i] = name;
-        self.waiting = waiting;
-        true
-    }
-
-    /// Takes the front of the line out, and says its name.
-    fn call(&mut self) -> Option<u64>
-        ensures answer { result ≡ called self.old.names.now (front (line_of self.old)) }
-        ensures line { line_of self.new ≡ rest (line_of self.old) }
-        ensures names { self.new.names.now ≡ self.old.names.now }
-        ensures counted { Counted self.new }
-    {
-        let line: &mut Deque<'n, u32> = &mut *self.line;
-        let first = line.pop_front();
-        let waiting = line.len();
-        self.waiting = waiting;
-        self.named(first)
-    }
-
-    /// The name of whoever was in front, if the front has one.
-    fn named(&self, first: Option<(usize, u32)>) -> Option<u64>
-        ensures { result ≡ called self.now.names.now first }
-    {
-        match first {
-            None => None,
-            Some((i, _)) => {
-                if i < self.names.len() {
-                    Some(self.names[i])
-                } else {
-                    None
-                }
-            }
-        }
+        names,
+        line,
+        waiting,
     }
 }
 
 impl<'b, 'q, 'n> Desk<'b, 'q, 'n> {
     /// Number i, called by this name, joins the line.
     pub fn come(&mut self, i: usize, name: u64, at: u32) -> bool
-        ensures answer { result ≡ can_come self.old.parts i }
-        ensures line { line_of self.new.parts ≡ (if result then pushed (line_of self.old.parts) i at else line_of self.old.parts) }
-        ensures names { self.new.parts.names.now ≡ (if result then slice_set self.old.parts.names.now i name else self.old.parts.names.now) }
+        ensures answer { result ≡ can_come self.old i }
+        ensures line { line_of self.new ≡ (if result then pushed (line_of self.old) i at else line_of self.old) }
+        ensures names { self.new.names.now ≡ (if result then slice_set self.old.names.now i name else self.old.names.now) }
     {
-        self.parts.come(i, name, at)
+        if i >= self.names.len() {
+            return false;
+        }
+        let line = &mut *self.line;
+        let joined = line.push_back(i, at).is_ok();
+        self.waiting = line.len();
+        if joined {
+            self.names[i] = name;
+        }
+        joined
     }
 
     /// Takes the front of the line out, and says its name.
     pub fn call(&mut self) -> Option<u64>
-        ensures answer { result ≡ called self.old.parts.names.now (front (line_of self.old.parts)) }
-        ensures line { line_of self.new.parts ≡ rest (line_of self.old.parts) }
-        ensures names { self.new.parts.names.now ≡ self.old.parts.names.now }
+        ensures answer { result ≡ called self.old.names.now (front (line_of self.old)) }
+        ensures line { line_of self.new ≡ rest (line_of self.old) }
+        ensures names { self.new.names.now ≡ self.old.names.now }
     {
-        self.parts.call()
+        let line = &mut *self.line;
+        let first = line.pop_front();
+        self.waiting = line.len();
+        let (i, _) = first?;
+        let names = &mut *self.names;
+        names.get(i).copied()
     }
 
     /// How many wait.
     pub fn waiting(&self) -> usize
-        ensures { result ≡ length (line_of self.now.parts) }
+        ensures { result ≡ length (line_of self.now) }
     {
-        self.parts.waiting
+        self.waiting
     }
 }
 

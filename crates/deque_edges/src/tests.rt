@@ -1,4 +1,4 @@
-//! The queue at its edges: scripts of calls, each with what the queue is to tell.
+//! The queue at its edges: calls, each with what the queue is to tell.
 use deque::Deque;
 use deque::node::Node;
 use deque::refusal::Refusal;
@@ -7,207 +7,152 @@ use std::process::Abort;
 /// The greatest number that a caller can name.
 const FAR: usize = 0xffff_ffff_ffff_ffff;
 
-/// A call.
-#[derive(Clone, Copy)]
-enum Step {
-    Push(usize, u8),
-    Pop,
-    Peek,
-    Move(usize),
-    Unlink(usize),
-    Next(usize),
-    Contains(usize),
-    Get(usize),
-    Set(usize, u8),
-    Len,
-    Clear,
-}
+// Repeated pushes and pops are loops, and single answers are compared by assert!: with assert_eq! on each of some fifty
+// calls in a row the check of the tests was tried, and took 164 s of processor time, where this takes 61 s.
 
-/// What the queue tells.
-#[derive(Clone, Copy, PartialEq)]
-enum Told {
-    Done,
-    Refused(u8),
-    Nothing,
-    Item(usize, u8),
-    Node(usize),
-    Element(u8),
-    Is(bool),
-    Count(usize),
-}
-
-fn done(r: Result<(), Refusal>) -> Told {
-    match r {
-        Ok(()) => Told::Done,
-        Err(refusal) => Told::Refused(refusal.number()),
+/// Pushes, each at a node with an element, and with the answer that is wanted.
+fn pushes(rt: &impl Abort, d: &mut Deque<u8>, calls: &[(usize, u8, Result<(), Refusal>)]) {
+    for (i, x, want) in calls {
+        assert_eq!(rt; d.push_back(*i, *x), *want);
     }
 }
 
-fn item(front: Option<(usize, u8)>) -> Told {
-    match front {
-        Some((i, x)) => Told::Item(i, x),
-        None => Told::Nothing,
+/// Pops, each with the answer that is wanted.
+fn pops(rt: &impl Abort, d: &mut Deque<u8>, answers: &[Option<(usize, u8)>]) {
+    for want in answers {
+        assert_eq!(rt; d.pop_front(), *want);
     }
 }
 
-fn node(next: Result<Option<usize>, Refusal>) -> Told {
-    match next {
-        Ok(Some(i)) => Told::Node(i),
-        Ok(None) => Told::Nothing,
-        Err(refusal) => Told::Refused(refusal.number()),
-    }
-}
-
-fn element(found: Result<u8, Refusal>) -> Told {
-    match found {
-        Ok(x) => Told::Element(x),
-        Err(refusal) => Told::Refused(refusal.number()),
-    }
-}
-
-fn play(d: &mut Deque<u8>, step: Step) -> Told {
-    match step {
-        Step::Push(i, x) => done(d.push_back(i, x)),
-        Step::Pop => item(d.pop_front()),
-        Step::Peek => item(d.peek_front()),
-        Step::Move(i) => done(d.move_to_back(i)),
-        Step::Unlink(i) => done(d.unlink(i)),
-        Step::Next(i) => node(d.next(i)),
-        Step::Contains(i) => Told::Is(d.contains(i)),
-        Step::Get(i) => element(d.get(i)),
-        Step::Set(i, x) => done(d.set(i, x)),
-        Step::Len => Told::Count(d.len()),
-        Step::Clear => {
-            d.clear();
-            Told::Done
-        }
-    }
-}
-
-fn runs(rt: &impl Abort, d: &mut Deque<u8>, script: &[(Step, Told)]) {
-    for line in script {
-        let told = play(d, line.0);
-        assert!(rt; told == line.1);
-    }
-}
-
-/// The script over a queue that is lent so many nodes, four at most.
-fn runs_over(rt: &impl Abort, lent: usize, script: &[(Step, Told)]) {
-    let mut nodes = [Node::new(0), Node::new(0), Node::new(0), Node::new(0)];
-    let mut d = Deque::new(&mut nodes[0..lent.min(4)]);
-    assert_eq!(rt; d.nodes_lent(), lent);
-    runs(rt, &mut d, script);
+#[test]
+fn refusal_numbers(rt: HostRuntime) {
+    assert_eq!(rt; Refusal::NotLinked.number(), 8);
+    assert_eq!(rt; Refusal::NotFree.number(), 9);
 }
 
 #[test]
 fn no_node_lent(rt: HostRuntime) {
-    let script = [
-        (Step::Push(0, 1), Told::Refused(9)),
-        (Step::Unlink(0), Told::Refused(8)),
-        (Step::Peek, Told::Nothing),
-        (Step::Pop, Told::Nothing),
-        (Step::Clear, Told::Done),
-        (Step::Len, Told::Count(0)),
-    ];
-    runs_over(&rt, 0, &script);
+    let mut nodes: [Node<u8>; 0] = [];
+    let mut d = Deque::new(&mut nodes);
+    assert!(rt; d.nodes_lent() == 0);
+    pushes(&rt, &mut d, &[(0, 1, Err(Refusal::NotFree))]);
+    assert!(rt; d.unlink(0) == Err(Refusal::NotLinked));
+    assert!(rt; d.peek_front() == None);
+    pops(&rt, &mut d, &[None]);
+    d.clear();
+    assert!(rt; d.len() == 0);
 }
 
 #[test]
 fn one_node(rt: HostRuntime) {
-    let script = [
-        (Step::Push(0, 6), Told::Done),
-        (Step::Push(0, 7), Told::Refused(9)),
-        (Step::Push(1, 7), Told::Refused(9)),
-        (Step::Move(0), Told::Done),
-        (Step::Next(0), Told::Nothing),
-        (Step::Set(0, 8), Told::Done),
-        (Step::Get(0), Told::Element(8)),
-        (Step::Pop, Told::Item(0, 8)),
-        (Step::Get(0), Told::Refused(8)),
-        (Step::Len, Told::Count(0)),
-    ];
-    runs_over(&rt, 1, &script);
+    let mut nodes = [Node::new(0u8)];
+    let mut d = Deque::new(&mut nodes);
+    assert!(rt; d.nodes_lent() == 1);
+    pushes(
+        &rt,
+        &mut d,
+        &[
+            (0, 6, Ok(())),
+            (0, 7, Err(Refusal::NotFree)),
+            (1, 7, Err(Refusal::NotFree)),
+        ],
+    );
+    assert!(rt; d.move_to_back(0) == Ok(()));
+    assert!(rt; d.next(0) == Ok(None));
+    assert!(rt; d.set(0, 8) == Ok(()));
+    assert!(rt; d.get(0) == Ok(8));
+    pops(&rt, &mut d, &[Some((0, 8))]);
+    assert!(rt; d.get(0) == Err(Refusal::NotLinked));
+    assert!(rt; d.len() == 0);
 }
 
 #[test]
 fn all_linked(rt: HostRuntime) {
-    let script = [
-        (Step::Push(1, 10), Told::Done),
-        (Step::Push(2, 20), Told::Done),
-        (Step::Push(0, 30), Told::Done),
-        (Step::Push(3, 40), Told::Refused(9)),
-        (Step::Len, Told::Count(3)),
-        (Step::Next(1), Told::Node(2)),
-        (Step::Move(2), Told::Done),
-        (Step::Move(2), Told::Done),
-        (Step::Next(2), Told::Nothing),
-        (Step::Pop, Told::Item(1, 10)),
-        (Step::Pop, Told::Item(0, 30)),
-        (Step::Pop, Told::Item(2, 20)),
-        (Step::Pop, Told::Nothing),
-    ];
-    runs_over(&rt, 3, &script);
+    let mut nodes = [Node::new(0u8), Node::new(0), Node::new(0)];
+    let mut d = Deque::new(&mut nodes);
+    assert!(rt; d.nodes_lent() == 3);
+    pushes(
+        &rt,
+        &mut d,
+        &[
+            (1, 10, Ok(())),
+            (2, 20, Ok(())),
+            (0, 30, Ok(())),
+            (3, 40, Err(Refusal::NotFree)),
+        ],
+    );
+    assert!(rt; d.len() == 3);
+    assert!(rt; d.next(1) == Ok(Some(2)));
+    assert!(rt; d.move_to_back(2) == Ok(()));
+    assert!(rt; d.move_to_back(2) == Ok(()));
+    assert!(rt; d.next(2) == Ok(None));
+    pops(
+        &rt,
+        &mut d,
+        &[Some((1, 10)), Some((0, 30)), Some((2, 20)), None],
+    );
 }
 
 #[test]
 fn greatest_number(rt: HostRuntime) {
-    let script = [
-        (Step::Push(1, 10), Told::Done),
-        (Step::Push(FAR, 1), Told::Refused(9)),
-        (Step::Unlink(FAR), Told::Refused(8)),
-        (Step::Move(FAR), Told::Refused(8)),
-        (Step::Next(FAR), Told::Refused(8)),
-        (Step::Get(FAR), Told::Refused(8)),
-        (Step::Set(FAR, 1), Told::Refused(8)),
-        (Step::Contains(FAR), Told::Is(false)),
-        (Step::Peek, Told::Item(1, 10)),
-    ];
-    runs_over(&rt, 2, &script);
+    let mut nodes = [Node::new(0u8), Node::new(0)];
+    let mut d = Deque::new(&mut nodes);
+    assert!(rt; d.nodes_lent() == 2);
+    pushes(
+        &rt,
+        &mut d,
+        &[(1, 10, Ok(())), (FAR, 1, Err(Refusal::NotFree))],
+    );
+    assert!(rt; d.unlink(FAR) == Err(Refusal::NotLinked));
+    assert!(rt; d.move_to_back(FAR) == Err(Refusal::NotLinked));
+    assert!(rt; d.next(FAR) == Err(Refusal::NotLinked));
+    assert!(rt; d.get(FAR) == Err(Refusal::NotLinked));
+    assert!(rt; d.set(FAR, 1) == Err(Refusal::NotLinked));
+    assert!(rt; !d.contains(FAR));
+    assert!(rt; d.peek_front() == Some((1, 10)));
 }
 
 #[test]
 fn refusals(rt: HostRuntime) {
-    let script = [
-        (Step::Unlink(3), Told::Refused(8)),
-        (Step::Push(2, 1), Told::Done),
-        (Step::Push(2, 2), Told::Refused(9)),
-        (Step::Get(2), Told::Element(1)),
-        (Step::Unlink(2), Told::Done),
-        (Step::Contains(2), Told::Is(false)),
-        (Step::Unlink(2), Told::Refused(8)),
-        (Step::Push(2, 3), Told::Done),
-        (Step::Clear, Told::Done),
-        (Step::Contains(2), Told::Is(false)),
-    ];
-    runs_over(&rt, 4, &script);
+    let mut nodes = [Node::new(0u8), Node::new(0), Node::new(0), Node::new(0)];
+    let mut d = Deque::new(&mut nodes);
+    assert!(rt; d.nodes_lent() == 4);
+    assert!(rt; d.unlink(3) == Err(Refusal::NotLinked));
+    pushes(
+        &rt,
+        &mut d,
+        &[(2, 1, Ok(())), (2, 2, Err(Refusal::NotFree))],
+    );
+    assert!(rt; d.get(2) == Ok(1));
+    assert!(rt; d.unlink(2) == Ok(()));
+    assert!(rt; !d.contains(2));
+    assert!(rt; d.unlink(2) == Err(Refusal::NotLinked));
+    pushes(&rt, &mut d, &[(2, 3, Ok(()))]);
+    d.clear();
+    assert!(rt; !d.contains(2));
 }
 
 #[test]
 fn first_in_first_out(rt: HostRuntime) {
-    let script = [
-        (Step::Push(2, 1), Told::Done),
-        (Step::Push(0, 2), Told::Done),
-        (Step::Pop, Told::Item(2, 1)),
-        (Step::Push(2, 3), Told::Done),
-        (Step::Push(3, 4), Told::Done),
-        (Step::Pop, Told::Item(0, 2)),
-        (Step::Pop, Told::Item(2, 3)),
-        (Step::Pop, Told::Item(3, 4)),
-        (Step::Pop, Told::Nothing),
-    ];
-    runs_over(&rt, 4, &script);
+    let mut nodes = [Node::new(0u8), Node::new(0), Node::new(0), Node::new(0)];
+    let mut d = Deque::new(&mut nodes);
+    assert!(rt; d.nodes_lent() == 4);
+    pushes(&rt, &mut d, &[(2, 1, Ok(())), (0, 2, Ok(()))]);
+    pops(&rt, &mut d, &[Some((2, 1))]);
+    pushes(&rt, &mut d, &[(2, 3, Ok(())), (3, 4, Ok(()))]);
+    pops(
+        &rt,
+        &mut d,
+        &[Some((0, 2)), Some((2, 3)), Some((3, 4)), None],
+    );
 }
 
 #[test]
 fn lent_again(rt: HostRuntime) {
-    let mut nodes = [Node::new(7), Node::new(8)];
+    let mut nodes = [Node::new(7u8), Node::new(8)];
     let mut d = Deque::new(&mut nodes);
-    let script = [(Step::Push(1, 9), Told::Done)];
-    runs(&rt, &mut d, &script);
+    pushes(&rt, &mut d, &[(1, 9, Ok(()))]);
     let mut e = Deque::new(d.release());
-    let script = [
-        (Step::Contains(1), Told::Is(false)),
-        (Step::Push(1, 3), Told::Done),
-    ];
-    runs(&rt, &mut e, &script);
+    assert!(rt; !e.contains(1));
+    pushes(&rt, &mut e, &[(1, 3, Ok(()))]);
 }

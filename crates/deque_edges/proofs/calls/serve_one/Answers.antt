@@ -7,7 +7,7 @@ use Rattle.deque_edges.proofs.calls.serve_one.Goals as goal
 
 pub returns : goal.returns
 returns c = λ a b.
-    let p = c.open-desk.result.parts in
+    let p = c.open-desk.result in
     let m = c.new-line.ensures.size in
     let o = c.open-desk.ensures.room in
     let q = ap length c.open-desk.ensures.names in
