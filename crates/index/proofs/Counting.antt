@@ -24,18 +24,14 @@ module _ {A B : Type 0} where
       sym (le-ltb (count (live s) (capacity s)) (capacity s) (omega arith))
   took_answer s t e (Some i) k = sym (lt-ltb (count (live s) (capacity s)) (capacity s) (room s i (k.within i refl) (k.fresh i refl)))
 
-  pub same_capacity : (s t : State A B) → length t.cs ≡ length s.cs → length t.hs ≡ length s.hs → capacity t ≡ capacity s
-  same_capacity s t p q = sound.capacity_same (length s.cs) (length s.hs) (length t.cs) (length t.hs) p q
-
-  -- as many cells can be held as before
-  pub emptied_capacity : (cs : List (Cell A B)) (n : ℕ) (t : State A B) → Emptied cs n t → capacity t ≡ capacity_of (length cs) n
-  emptied_capacity cs n t e = ap (λ (x : List (Cell A B)). capacity_of (length x) (length t.hs)) e.cells ∙ ap (capacity_of (length cs)) e.heads
-
   pub held_more : (s t : State A B) → Sound s → Sound t → (n : ℕ) → t.held ≡ s.held + n → count (live t) (capacity t) ≡ count (live s) (capacity s) + n
   held_more s t h k n e = let a = h.total in let b = k.total in omega arith
 
   pub held_less : (s t : State A B) → Sound s → Sound t → (n : ℕ) → t.held + n ≡ s.held → count (live t) (capacity t) + n ≡ count (live s) (capacity s)
   held_less s t h k n e = let a = h.total in let b = k.total in omega arith
+
+  pub held_same : (s t : State A B) → Sound s → Sound t → t.held ≡ s.held → count (live t) (capacity t) ≡ count (live s) (capacity s)
+  held_same s t h k e = sym k.total ∙ e ∙ h.total
 
   pub held_none : (s : State A B) → ((j : ℕ) → entry_at s j ≡ None) → count (live s) (capacity s) ≡ 0
   held_none s h = Orders.count_none (live s) (capacity s) (λ j. ap is_some (h j))

@@ -5,8 +5,10 @@ use Rattle.std.specs.List.{slice_get}
 use Rattle.std.proofs.lemmas.Bool.Decides.{nat_tests}
 use Rattle.std.proofs.lemmas.Bool.{cases_Bool, lt-ltb}
 use Rattle.table.specs.declared.cell.Cell.{Cell}
+use Rattle.table.specs.declared.lent.Table.{Table}
 use Rattle.links.specs.Places.{is, has}
 use Rattle.table.specs.Chain.{State, capacity, spot_in, entry_in, chain, Sound}
+use Rattle.table.specs.Meaning.{state}
 use Rattle.table.proofs.Memory
 use Rattle.table.proofs.Soundness as sound
 use Rattle.table.proofs.Outcomes as outcomes
@@ -47,3 +49,7 @@ module _ {A B : Type 0} where
     either = held_or_free s h;
     beyond = λ j l. let u = h.size in outcomes.past_entry s j (omega arith);
   }
+
+  -- every table's memory lies so
+  pub laid : (t : Table A B) → ∥ Layout (state t) ∥₁
+  laid t = ∣ layout (state t) (sound.whole t) ∣₁

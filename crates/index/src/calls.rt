@@ -1,5 +1,6 @@
 //! The calls.
-// `Lawful` is a premise, and not a fact of the type: no call asks, and a caller may give an unlawful weight.
+// `Lawful` stays a premise: no call asks (no `requires`), so a caller may give an unlawful weight.
+// `held` and `capacity` are said of the index before and after, so no type can carry them.
 ghost use Rattle.std.specs.Prelude.{◌≡◌, ℕ, ◌+◌, ◌<◌, true, length, is_some, if◌then◌else◌, Some, None, nat_eq, nat_lt};
 ghost use Rattle.links.specs.Places.{is, pick};
 ghost use Rattle.table.specs.Chain.{capacity_of, key_of};
@@ -13,6 +14,7 @@ use kinds::EntryKind;
 use links::Link;
 use table::{Cell, Content, Entry, Table};
 
+#[tactic(auto, using(crate::proofs::Layouts::laid), unfolding(crate::specs::Meaning::entries, crate::specs::Meaning::capacity_in, crate::specs::Meaning::held_in))]
 impl<'m, K: EntryKind> Index<'m, K> {
     /// An index that holds nothing. It empties the heads, and leaves the cells as they are lent.
     pub fn new(cells: &'m mut [Cell<K::Key, K::Value>], heads: &'m mut [Link]) -> Index<'m, K>

@@ -2,8 +2,8 @@
 //!
 //! An `Index` is a map from cells to entries over lent memory: it finds the cell of a key, takes a free cell for a
 //! new entry, reads and replaces what a cell has, and gives it up. Contracts speak of that map alone (`entries`);
-//! which free cell is taken and how the chains lie is the `Layout`, of which it is certain that each held cell
-//! stands in the chain of its hash and in no other, and that each cell is held or free and never both.
+//! which free cell is taken and how the chains lie is the `Layout`, which every index has by its type: each held cell
+//! stands in the chain of its hash and in no other, and each cell is held or free and never both.
 //! What depends on the kind of key is the predicate `Lawful`: each entry's hash and weight are its kind's, and no
 //! two held keys are the same. Making gives it and each call keeps it; what needs it has it as a premise, and
 //! without it every call is still safe and ends. It leaves to the caller to ask for a key before it takes a

@@ -4,7 +4,7 @@
 //! is proved against the index's promises alone: it looks a key up, replaces what is there or takes a cell, and so
 //! never holds a key twice. The tests run the index where it could go wrong: every cell in one chain, no cell, no
 //! head, a number of heads that is no power of two, cells given up and taken again, memory that was used before,
-//! and one key in two spellings. The proof is one case for each way of `put`.
+//! and one key in two spellings. The check finds every proof alone.
 #![tactic(auto)]
 
 mod holder;

@@ -38,54 +38,24 @@ fn content<Value>(value: Value, weight: u32) -> Content<Value> {
     }
 }
 
-/// A call and what it is to answer.
-#[derive(Clone, Copy)]
-enum Step {
-    Take { key: u64, cell: Option<usize> },
-    GiveUp { cell: usize, done: bool },
-    Find { key: u64, cell: Option<usize> },
-    Held { count: usize },
+/// Taking a cell for this key answers this cell.
+fn takes(rt: &impl Abort, x: &mut Index<'_, Serials>, key: u64, cell: Option<usize>) {
+    assert_eq!(rt; x.take(key, content(reading(1), 1), key), cell);
 }
 
-fn follow_one(rt: &impl Abort, x: &mut Index<'_, Serials>, step: Step) {
-    match step {
-        Step::Take { key, cell } => {
-            assert_eq!(rt; x.take(key, content(reading(1), 1), key), cell);
-        }
-        Step::GiveUp { cell, done } => {
-            assert_eq!(rt; x.give_up(cell).is_some(), done);
-        }
-        Step::Find { key, cell } => {
-            assert_eq!(rt; x.find(&key), cell);
-        }
-        Step::Held { count } => {
-            assert_eq!(rt; x.held(), count);
-        }
-    }
+/// Giving this cell up finds it held, or not.
+fn gives_up(rt: &impl Abort, x: &mut Index<'_, Serials>, cell: usize, held: bool) {
+    assert_eq!(rt; x.give_up(cell).is_some(), held);
 }
 
-fn follow(rt: &impl Abort, x: &mut Index<'_, Serials>, steps: &[Step]) {
-    for step in steps {
-        follow_one(rt, x, *step);
-    }
+/// Asking for this key answers this cell.
+fn finds(rt: &impl Abort, x: &Index<'_, Serials>, key: u64, cell: Option<usize>) {
+    assert_eq!(rt; x.find(&key), cell);
 }
 
-fn took(key: u64, cell: usize) -> Step {
-    Step::Take {
-        key,
-        cell: Some(cell),
-    }
-}
-
-fn found_at(key: u64, cell: usize) -> Step {
-    Step::Find {
-        key,
-        cell: Some(cell),
-    }
-}
-
-fn gave_up(cell: usize) -> Step {
-    Step::GiveUp { cell, done: true }
+/// As many are held.
+fn holds(rt: &impl Abort, x: &Index<'_, Serials>, count: usize) {
+    assert_eq!(rt; x.held(), count);
 }
 
 #[test]
@@ -93,26 +63,20 @@ fn one_head_has_every_cell(rt: HostRuntime) {
     let mut cells = [found(), found(), found(), found()];
     let mut heads = [Link::none()];
     let mut x = Index::<Serials>::new(&mut cells, &mut heads);
-    let steps = [
-        Step::Find { key: 4, cell: None },
-        took(4, 0),
-        took(6, 1),
-        took(8, 2),
-        took(5, 3),
-        Step::Take { key: 7, cell: None },
-        gave_up(1),
-        Step::GiveUp {
-            cell: 1,
-            done: false,
-        },
-        Step::Find { key: 6, cell: None },
-        found_at(4, 0),
-        gave_up(3),
-        gave_up(0),
-        found_at(8, 2),
-        Step::Held { count: 1 },
-    ];
-    follow(&rt, &mut x, &steps);
+    finds(&rt, &x, 4, None);
+    takes(&rt, &mut x, 4, Some(0));
+    takes(&rt, &mut x, 6, Some(1));
+    takes(&rt, &mut x, 8, Some(2));
+    takes(&rt, &mut x, 5, Some(3));
+    takes(&rt, &mut x, 7, None);
+    gives_up(&rt, &mut x, 1, true);
+    gives_up(&rt, &mut x, 1, false);
+    finds(&rt, &x, 6, None);
+    finds(&rt, &x, 4, Some(0));
+    gives_up(&rt, &mut x, 3, true);
+    gives_up(&rt, &mut x, 0, true);
+    finds(&rt, &x, 8, Some(2));
+    holds(&rt, &x, 1);
 }
 
 #[test]
@@ -120,22 +84,19 @@ fn all_are_given_up_and_taken_again(rt: HostRuntime) {
     let mut cells = [found(), found(), found()];
     let mut heads = [Link::none(), Link::none()];
     let mut x = Index::<Serials>::new(&mut cells, &mut heads);
-    let steps = [
-        took(1, 0),
-        took(2, 1),
-        took(3, 2),
-        gave_up(0),
-        gave_up(2),
-        gave_up(1),
-        Step::Held { count: 0 },
-        took(4, 1),
-        took(5, 2),
-        took(6, 0),
-        Step::Take { key: 7, cell: None },
-        Step::Find { key: 1, cell: None },
-        found_at(6, 0),
-    ];
-    follow(&rt, &mut x, &steps);
+    takes(&rt, &mut x, 1, Some(0));
+    takes(&rt, &mut x, 2, Some(1));
+    takes(&rt, &mut x, 3, Some(2));
+    gives_up(&rt, &mut x, 0, true);
+    gives_up(&rt, &mut x, 2, true);
+    gives_up(&rt, &mut x, 1, true);
+    holds(&rt, &x, 0);
+    takes(&rt, &mut x, 4, Some(1));
+    takes(&rt, &mut x, 5, Some(2));
+    takes(&rt, &mut x, 6, Some(0));
+    takes(&rt, &mut x, 7, None);
+    finds(&rt, &x, 1, None);
+    finds(&rt, &x, 6, Some(0));
 }
 
 #[test]
@@ -143,45 +104,33 @@ fn three_heads(rt: HostRuntime) {
     let mut cells = [found(), found(), found(), found()];
     let mut heads = [Link::none(), Link::none(), Link::none()];
     let mut x = Index::<Serials>::new(&mut cells, &mut heads);
-    let steps = [
-        took(2, 0),
-        took(3, 1),
-        took(5, 2),
-        took(8, 3),
-        found_at(5, 2),
-        gave_up(2),
-        found_at(2, 0),
-        found_at(8, 3),
-        found_at(3, 1),
-    ];
-    follow(&rt, &mut x, &steps);
+    takes(&rt, &mut x, 2, Some(0));
+    takes(&rt, &mut x, 3, Some(1));
+    takes(&rt, &mut x, 5, Some(2));
+    takes(&rt, &mut x, 8, Some(3));
+    finds(&rt, &x, 5, Some(2));
+    gives_up(&rt, &mut x, 2, true);
+    finds(&rt, &x, 2, Some(0));
+    finds(&rt, &x, 8, Some(3));
+    finds(&rt, &x, 3, Some(1));
 }
 
 #[test]
 fn no_cell(rt: HostRuntime) {
     let mut heads = [Link::none(), Link::none()];
     let mut x = Index::<Serials>::new(&mut [], &mut heads);
-    let steps = [
-        Step::Take { key: 1, cell: None },
-        Step::Find { key: 1, cell: None },
-        Step::GiveUp {
-            cell: 0,
-            done: false,
-        },
-    ];
-    follow(&rt, &mut x, &steps);
+    takes(&rt, &mut x, 1, None);
+    finds(&rt, &x, 1, None);
+    gives_up(&rt, &mut x, 0, false);
 }
 
 #[test]
 fn no_head(rt: HostRuntime) {
     let mut cells = [found(), found()];
     let mut x = Index::<Serials>::new(&mut cells, &mut []);
-    let steps = [
-        Step::Take { key: 4, cell: None },
-        Step::Find { key: 4, cell: None },
-        Step::Held { count: 0 },
-    ];
-    follow(&rt, &mut x, &steps);
+    takes(&rt, &mut x, 4, None);
+    finds(&rt, &x, 4, None);
+    holds(&rt, &x, 0);
 }
 
 #[test]
@@ -189,13 +138,11 @@ fn a_cleared_index_holds_nothing(rt: HostRuntime) {
     let mut cells = [found(), found()];
     let mut heads = [Link::none()];
     let mut x = Index::<Serials>::new(&mut cells, &mut heads);
-    follow(&rt, &mut x, &[took(1, 0), took(2, 1)]);
+    takes(&rt, &mut x, 1, Some(0));
+    takes(&rt, &mut x, 2, Some(1));
     x.clear();
-    follow(
-        &rt,
-        &mut x,
-        &[Step::Find { key: 2, cell: None }, took(2, 0)],
-    );
+    finds(&rt, &x, 2, None);
+    takes(&rt, &mut x, 2, Some(0));
 }
 
 #[test]

@@ -55,11 +55,6 @@ module _ {X : Type 0} where
   nth_some (n ∷ ns) zero l = (n, refl)
   nth_some (n ∷ ns) (suc i) l = nth_some ns i (omega arith)
 
-  pub nth_within : (ns : List X) (i : ℕ) (x : X) → slice_get ns i ≡ Some x → i < length ns
-  nth_within [] i x e = let z : ◌≡◌ {A = ℕ} 0 1 = cc in absurd (omega arith)
-  nth_within (n ∷ ns) zero x e = omega arith
-  nth_within (n ∷ ns) (suc i) x e = let l = nth_within ns i x e in omega arith
-
   -- a part F that f leaves
   pub part_same : {Y : Type 0} (F : Option X → Y) (f : X → X) → ((n : X) → F (Some (f n)) ≡ F (Some n)) → (ns : List X) (o : Option ℕ) (j : ℕ) → F (slice_get (edited_at f ns o) j) ≡ F (slice_get ns j)
   part_same F f h ns o j = ap F (nth_edited_at f ns o j) ∙ elim (cases_Bool (is o j)) [ inl e ↦ rw e (at (slice_get ns j)) | inr e ↦ rw e ]

@@ -81,20 +81,6 @@ module _ {A B : Type 0} where
   leads None = refl
   leads (Some c) = refl
 
-  -- the cell of a vacancy can be taken
-  pub vacancy_within : (s : State A B) (v : Vacancy) → Some v ≡ vacancy_in s → v.place < capacity s
-  vacancy_within s v q = go (goes_to s.free) q
-    where
-      go : (o : Option ℕ) → Some v ≡ vacancy_of s o → v.place < capacity s
-      go (Some i) q = elim (cases_Bool (ltb i (capacity s))) [
-        | inl t ↦ let z : Some v ≡ Some (record { place = i; used = s.used; rest = chain_in (slice_get s.cs i) }) = rw t at q in let y : v ≡ record { place = i; used = s.used; rest = chain_in (slice_get s.cs i) } = cc in let x = ap (λ (w : Vacancy). w.place) y in let l = ltb-true i (capacity s) t in omega arith
-        | inr t ↦ let z : Some v ≡ None = rw t at q in let y : ◌≡◌ {A = ℕ} 0 1 = cc in absurd (never y)
-      ]
-      go None q = elim (cases_Bool (ltb s.used (capacity s))) [
-        | inl t ↦ let z : Some v ≡ Some (record { place = s.used; used = s.used + 1; rest = s.free }) = rw t at q in let y : v ≡ record { place = s.used; used = s.used + 1; rest = s.free } = cc in let x = ap (λ (w : Vacancy). w.place) y in let l = ltb-true s.used (capacity s) t in omega arith
-        | inr t ↦ let z : Some v ≡ None = rw t at q in let y : ◌≡◌ {A = ℕ} 0 1 = cc in absurd (never y)
-      ]
-
   reuse_took : (s : State A B) (i : ℕ) (e : Entry A B) → Sound s → goes_to s.free ≡ Some i → Took s (join_state (freed s s.used (chain_in (slice_get s.cs i))) i e) e (Some i)
   reuse_took s i e h f =
       let u = sound.free_used s h i f in
@@ -177,9 +163,6 @@ module _ {A B : Type 0} where
 
   read_entry : (s : State A B) (i : ℕ) (c : Cell A B) → i < s.used → slice_get s.cs i ≡ Some c → entry_at s i ≡ cond c.held (Some c.entry) None
   read_entry s i c l e = let t : ltb i s.used ≡ true = lt-ltb i s.used l in rw t (ap entry_in e)
-
-  pub unmarked_entry : (s : State A B) (i : ℕ) (c : Cell A B) → i < s.used → slice_get s.cs i ≡ Some c → c.held ≡ false → entry_at s i ≡ None
-  unmarked_entry s i c l e t = read_entry s i c l e ∙ rw t
 
   pub marked_entry : (s : State A B) (i : ℕ) (c : Cell A B) → Marked s i c → entry_at s i ≡ Some c.entry
   marked_entry s i c m = let t = m.marked in read_entry s i c m.used m.here ∙ rw t

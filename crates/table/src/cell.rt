@@ -26,6 +26,7 @@ pub struct Entry<Key, Value> {
     pub ticket: u64,
 }
 
+// The mark stays beside the entry: an `Option` of the entry takes 72 bytes of lent memory for a serial, this 64.
 /// A lent cell: an entry, the mark that it is held, and the link to the next cell of its chain.
 #[derive(Clone, Copy)]
 pub struct Cell<Key, Value> {
