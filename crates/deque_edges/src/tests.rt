@@ -167,8 +167,9 @@ fn walked(rt: HostRuntime) {
         &[(1, 10, Ok(())), (2, 20, Ok(())), (0, 30, Ok(()))],
     );
     assert!(rt; d.move_to_back(2) == Ok(()));
-    assert!(rt; d.iter().count() == 3);
     for (item, want) in d.iter().zip([(1, 10), (0, 30), (2, 20)]) {
         assert_eq!(rt; item, want);
     }
+    assert!(rt; d.iter().last() == Some((2, 20)));
+    assert!(rt; d.iter().nth(3) == None);
 }
