@@ -9,7 +9,7 @@ use Rattle.deque.specs.Views.{View, next_in, element_in, next_of, prev_of, linke
 use Rattle.deque.specs.Chain.{walk, State, order, item_in, item, meaning, Lies, Sound}
 use Rattle.deque.specs.Edits.{edited, edited_at, next_to, prev_to, element_to, loose, fresh, push_state, cut_state, unlink_state, set_state}
 use Rattle.deque.specs.Meaning.{places, dropped, rest, found, replaced}
-use Rattle.links.proofs.Orders.{both_ways, eqb_same, first_none}
+use Rattle.links.proofs.Orders.{both_ways, eqb_same}
 use Rattle.deque.proofs.Memory
 use Rattle.deque.proofs.Soundness.{order_is, has_within, push_sound, unlink_sound, set_sound}
 
@@ -169,9 +169,6 @@ module _ {T : Type 0} where
   found_in s h i n e v = found_value s h i e ∙ ap element_in v
 
   -- ---- the front
-  pub none_there : (s : State T) → Sound s (order s) → s.head ≡ None → meaning s ≡ []
-  none_there s h e = ap (flat_map (item s.ns)) (first_none (order s) (sym h.starts ∙ e))
-
   first_joined : (ns : List (View T)) (xs : List ℕ) (i : ℕ) (x : T) → first xs ≡ Some i → element_of ns i ≡ Some x → flat_map (item ns) xs ≡ (i, x) ∷ rest (flat_map (item ns) xs)
   first_joined ns [] i x e v = cc
   first_joined ns (y ∷ ys) i x e v =

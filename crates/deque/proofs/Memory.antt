@@ -48,12 +48,6 @@ module _ {T : Type 0} where
   length_edited f (n ∷ ns) zero = refl
   length_edited f (n ∷ ns) (suc i) = ap suc (length_edited f ns i)
 
-  -- a second write over the first
-  pub edited_over : (f h : View T → View T) → ((n : View T) → f (h n) ≡ f n) → (ns : List (View T)) (i : ℕ) → edited f (edited h ns i) i ≡ edited f ns i
-  edited_over f h e [] i = refl
-  edited_over f h e (n ∷ ns) zero = ap (λ (v : View T). v ∷ ns) (e n)
-  edited_over f h e (n ∷ ns) (suc i) = ap (λ (l : List (View T)). n ∷ l) (edited_over f h e ns i)
-
   pub length_edited_at : (f : View T → View T) (ns : List (View T)) (o : Option ℕ) → length (edited_at f ns o) ≡ length ns
   length_edited_at f ns None = refl
   length_edited_at f ns (Some i) = length_edited f ns i
