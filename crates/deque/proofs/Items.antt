@@ -1,15 +1,15 @@
 -- What the state means: the list of items after a push, a removal or a replaced element, and what a node that was read tells of it.
-use Rattle.std.proofs.Common.{◌≡◌, ℕ, zero, suc, ◌<◌, Bool, true, false, cond, eqb, List, [], ◌∷◌, ◌++◌, length, Some, None, Option, sym, refl, ap, ◌∙◌, inl, inr, arith}
+use Rattle.std.proofs.Common.{◌≡◌, ℕ, zero, suc, ◌-◌, ◌<◌, Bool, true, false, cond, eqb, List, [], ◌∷◌, ◌++◌, length, Some, None, Option, sym, refl, ap, ◌∙◌, inl, inr, arith}
 use Rattle.std.specs.List.{slice_get, flat_map}
 use Rattle.std.proofs.lemmas.List.{flat_map_more, length-map}
 use Rattle.std.proofs.lemmas.Bool.Decides.{nat_tests}
 use Rattle.std.proofs.lemmas.Bool.{cases_eq, cases_Bool, eqb-true}
 use Rattle.links.specs.Places.{first, has, after, before, distinct, without}
 use Rattle.deque.specs.Views.{View, next_in, element_in, next_of, prev_of, linked_of, element_of}
-use Rattle.deque.specs.Chain.{State, order, item_in, item, meaning, Lies, Sound}
+use Rattle.deque.specs.Chain.{walk, State, order, item_in, item, meaning, Lies, Sound}
 use Rattle.deque.specs.Edits.{edited, edited_at, next_to, prev_to, element_to, loose, fresh, push_state, cut_state, unlink_state, set_state}
 use Rattle.deque.specs.Meaning.{places, dropped, rest, found, replaced}
-use Rattle.links.proofs.Orders.{both_ways, eqb_same, first_none}
+use Rattle.links.proofs.Orders.{both_ways, eqb_same}
 use Rattle.deque.proofs.Memory
 use Rattle.deque.proofs.Soundness.{order_is, has_within, push_sound, unlink_sound, set_sound}
 
@@ -169,9 +169,6 @@ module _ {T : Type 0} where
   found_in s h i n e v = found_value s h i e ∙ ap element_in v
 
   -- ---- the front
-  pub none_there : (s : State T) → Sound s (order s) → s.head ≡ None → meaning s ≡ []
-  none_there s h e = ap (flat_map (item s.ns)) (first_none (order s) (sym h.starts ∙ e))
-
   first_joined : (ns : List (View T)) (xs : List ℕ) (i : ℕ) (x : T) → first xs ≡ Some i → element_of ns i ≡ Some x → flat_map (item ns) xs ≡ (i, x) ∷ rest (flat_map (item ns) xs)
   first_joined ns [] i x e v = cc
   first_joined ns (y ∷ ys) i x e v =
@@ -181,3 +178,26 @@ module _ {T : Type 0} where
 
   pub front_there : (s : State T) → Sound s (order s) → (i : ℕ) (n : View T) → s.head ≡ Some i → slice_get s.ns i ≡ Some n → meaning s ≡ (i, n.element) ∷ rest (meaning s)
   front_there s h i n e v = first_joined s.ns (order s) i n.element (sym h.starts ∙ e) (ap element_in v)
+
+  -- ---- a walk along the links, node by node
+  -- from nowhere nothing comes
+  nothing_comes : (ns : List (View T)) (f : ℕ) → walk ns f None ≡ []
+  nothing_comes ns zero = refl
+  nothing_comes ns (suc f) = refl
+
+  -- from a node that is lent its item comes, and then what comes from the node behind it
+  pub item_comes : (ns : List (View T)) (f i : ℕ) (n : View T) (o : Option ℕ) → 0 < f → Some i ≡ o → slice_get ns i ≡ Some n → flat_map (item ns) (walk ns f o) ≡ (i, n.element) ∷ flat_map (item ns) (walk ns (f - 1) n.next)
+  item_comes ns zero i n o l e v = absurd (omega arith)
+  item_comes ns (suc f) i n o l e v =
+      let z : f ≡ suc f - 1 = omega arith in
+      ap (λ (p : Option ℕ). flat_map (item ns) (walk ns (suc f) p)) (sym e)
+      ∙ ap (λ (t : Option (View T)). item_in i (element_in t) ++ flat_map (item ns) (walk ns f (next_in t))) v
+      ∙ ap (λ (m : ℕ). (i, n.element) ∷ flat_map (item ns) (walk ns m n.next)) z
+
+  -- from a node that is not lent nothing comes
+  pub none_comes : (ns : List (View T)) (f i : ℕ) (o : Option ℕ) → Some i ≡ o → slice_get ns i ≡ None → flat_map (item ns) (walk ns f o) ≡ []
+  none_comes ns zero i o e v = refl
+  none_comes ns (suc f) i o e v =
+      ap (λ (p : Option ℕ). flat_map (item ns) (walk ns (suc f) p)) (sym e)
+      ∙ ap (λ (t : Option (View T)). item_in i (element_in t) ++ flat_map (item ns) (walk ns f (next_in t))) v
+      ∙ ap (flat_map (item ns)) (nothing_comes ns f)

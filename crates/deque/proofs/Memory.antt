@@ -1,6 +1,7 @@
 -- What a write to one node leaves of the others, how many are linked, and where the walk along the links leads.
 use Rattle.std.proofs.Common.{◌≡◌, ℕ, zero, suc, ◌<◌, ◌≤◌, min, true, false, cond, eqb, List, [], ◌∷◌, ◌++◌, length, get_or, map, take, drop, set, Some, None, Option, sym, refl, ap, ◌∙◌, inl, inr, arith}
 use Rattle.std.specs.List.{slice_get}
+use Rattle.std.specs.Option.{option_map}
 use Rattle.std.proofs.lemmas.List.{length-map, length-take-le, take-map}
 use Rattle.std.proofs.lemmas.Bool.Decides.{nat_tests}
 use Rattle.std.proofs.lemmas.Bool.{cases_eq, cases_Bool}
@@ -12,12 +13,8 @@ use Rattle.deque.specs.Chain.{walk}
 use Rattle.deque.specs.Edits.{edited, edited_at, loose}
 use Rattle.links.proofs.Orders.{head_apart, tail_apart, both_ways}
 
-abbrev pub mapped : {T : Type 0} → (View T → View T) → Option (View T) → Option (View T)
-mapped f None = None
-mapped f (Some n) = Some (f n)
-
 module _ {T : Type 0} where
-  pub nth_edited : (f : View T → View T) (ns : List (View T)) (i j : ℕ) → slice_get (edited f ns i) j ≡ cond (eqb j i) (mapped f (slice_get ns j)) (slice_get ns j)
+  pub nth_edited : (f : View T → View T) (ns : List (View T)) (i j : ℕ) → slice_get (edited f ns i) j ≡ cond (eqb j i) (option_map f (slice_get ns j)) (slice_get ns j)
   nth_edited f [] i j = elim (cases_Bool (eqb j i)) [ inl e ↦ rw e | inr e ↦ rw e ]
   nth_edited f (n ∷ ns) zero zero = refl
   nth_edited f (n ∷ ns) zero (suc j) = let t : eqb (suc j) 0 ≡ false = grind (arith, nat_tests) in rw t
@@ -51,12 +48,6 @@ module _ {T : Type 0} where
   length_edited f (n ∷ ns) zero = refl
   length_edited f (n ∷ ns) (suc i) = ap suc (length_edited f ns i)
 
-  -- a second write over the first
-  pub edited_over : (f h : View T → View T) → ((n : View T) → f (h n) ≡ f n) → (ns : List (View T)) (i : ℕ) → edited f (edited h ns i) i ≡ edited f ns i
-  edited_over f h e [] i = refl
-  edited_over f h e (n ∷ ns) zero = ap (λ (v : View T). v ∷ ns) (e n)
-  edited_over f h e (n ∷ ns) (suc i) = ap (λ (l : List (View T)). n ∷ l) (edited_over f h e ns i)
-
   pub length_edited_at : (f : View T → View T) (ns : List (View T)) (o : Option ℕ) → length (edited_at f ns o) ≡ length ns
   length_edited_at f ns None = refl
   length_edited_at f ns (Some i) = length_edited f ns i
@@ -67,7 +58,7 @@ module _ {T : Type 0} where
   linked_within (n ∷ ns) (suc j) h = let k = linked_within ns j h in omega arith
 
   -- a part F of a node that f makes v
-  pub part_here : {X : Type 0} (F : Option (View T) → X) (f : View T → View T) (v : X) → ((n : View T) → F (Some (f n)) ≡ v) → (ns : List (View T)) (j : ℕ) → j < length ns → F (mapped f (slice_get ns j)) ≡ v
+  pub part_here : {X : Type 0} (F : Option (View T) → X) (f : View T → View T) (v : X) → ((n : View T) → F (Some (f n)) ≡ v) → (ns : List (View T)) (j : ℕ) → j < length ns → F (option_map f (slice_get ns j)) ≡ v
   part_here F f v h [] j l = absurd (omega arith)
   part_here F f v h (n ∷ ns) zero l = h n
   part_here F f v h (n ∷ ns) (suc j) l = part_here F f v h ns j (omega arith)
@@ -82,7 +73,7 @@ module _ {T : Type 0} where
   part_same F f h ns None j = refl
   part_same F f h ns (Some i) j = ap F (nth_edited f ns i j) ∙ elim (cases_Bool (eqb j i)) [ inl e ↦ rw e (at (slice_get ns j)) | inr e ↦ rw e ]
     where
-      at : (o : Option (View T)) → F (mapped f o) ≡ F o
+      at : (o : Option (View T)) → F (option_map f o) ≡ F o
       at None = refl
       at (Some n) = h n
 

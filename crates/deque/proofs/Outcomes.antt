@@ -38,10 +38,6 @@ pub record Joined {T : Type 0} (F : View T → View T) (ns ms : List (Node T)) (
   pub nodes : views ms ≡ edited_at F (views ns) o
   pub end : h ≡ pick o a b
 
--- an answer that turns on a test
-pub chosen : {X : Type 0} {b c : Bool} (x y : X) → c ≡ b → cond b x y ≡ cond c x y
-chosen x y e = ap (λ (t : Bool). cond t x y) (sym e)
-
 module _ {T : Type 0} where
   pub joined_some : (F : View T → View T) (ns ms : List (Node T)) (i : ℕ) (m d : Node T) (o a b h : Option ℕ) → ms ≡ set ns i m → view_of m ≡ F (view_of (get_or ns i d)) → h ≡ b → Some i ≡ o → Joined F ns ms o a b h
   joined_some F ns ms i m d o a b h w v e s = record {

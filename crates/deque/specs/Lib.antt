@@ -3,4 +3,5 @@ pub mod Chain
 pub mod Edits
 pub mod Refusals
 pub mod Meaning
+pub mod Coming
 pub mod Laws

@@ -7,12 +7,17 @@ ghost use Rattle.deque.specs.Chain.{Lies};
 ghost use Rattle.deque.specs.Edits.{loose};
 ghost use Rattle.deque.specs.Refusals.{refused_by};
 ghost use Rattle.deque.specs.Meaning.{items, nodes, lender, lent, value_at, places, pushed, dropped, front, rest, found, replaced, moved, free, by_ok, when_pushed, when_linked, next_answer, found_answer, at_place, Untouched, Linked, Unlinked, Becomes};
+ghost use Rattle.deque.specs.Coming.{coming};
 ghost use Rattle.deque.specs.Laws.{EachOnce, LastHasNoNext, MovesToBack, UnlinkThenPushMoves, FirstInFirstOut};
 
 use crate::Deque;
+use crate::iter::Iter;
 use crate::node::Node;
 use crate::refusal::Refusal;
 use links::Link;
+
+// The clauses size, owner and values stand at each call that writes: they compare the queue before with the queue after,
+// which no invariant of one queue can say, and crates above read them by these names.
 
 impl<'n, T: Copy> Deque<'n, T> {
     /// An empty queue over the first nodes of the slice, 2^32 - 1 of them at most; each is taken out, and its element stays.
@@ -137,6 +142,17 @@ impl<'n, T: Copy> Deque<'n, T> {
         Ok(self.linked(i)?.next.target())
     }
 
+    /// The linked nodes' numbers and elements, front first.
+    pub fn iter(&self) -> Iter<'_, T>
+        ensures { coming result ≡ items self.now }
+    {
+        Iter {
+            nodes: self.nodes,
+            next: self.head,
+            left: self.len,
+        }
+    }
+
     /// Whether node i is linked.
     #[tactic(auto, using(crate::proofs::Promises::once))]
     pub fn contains(&self, i: usize) -> bool
@@ -231,7 +247,7 @@ impl<'n, T: Copy> Deque<'n, T> {
         self.len += 1;
     }
 
-    /// Takes node i, which says n, out.
+    /// Takes node i, which lies as n, out.
     fn cut(&mut self, i: usize, n: Node<T>)
         requires { Linked self.old i n }
         ensures { Becomes self.old self.new (dropped i (items self.old)) (value_at self.old) }

@@ -15,6 +15,7 @@
 ghost use Rattle.deque.specs.Chain.{Kept};
 
 mod calls;
+pub mod iter;
 pub mod node;
 pub mod refusal;
 

@@ -1,5 +1,6 @@
 //! What a desk does.
-ghost use Rattle.std.specs.Prelude.{◌≡◌, ℕ, ◌<◌, length, if◌then◌else◌, Some, slice_set};
+ghost use Rattle.std.specs.Prelude.{◌≡◌, ℕ, ◌<◌, length, nat_le, if◌then◌else◌, Some, slice_set};
+ghost use Rattle.std.specs.List.{list_any};
 ghost use Rattle.deque.specs.Meaning.{items, lent, pushed, front, rest};
 ghost use Rattle.deque_edges.specs.Waiting.{line_of, can_come, called};
 
@@ -52,6 +53,13 @@ impl<'b, 'q, 'n> Desk<'b, 'q, 'n> {
         let (i, _) = first?;
         let names = &mut *self.names;
         names.get(i).copied()
+    }
+
+    /// Whether anyone who waits came at this time or later.
+    pub fn has_since(&self, at: u32) -> bool
+        ensures { result ≡ list_any (λ p. nat_le at p.1) (line_of self.now) }
+    {
+        self.line.iter().any(|(_, came)| came >= at)
     }
 
     /// How many wait.

@@ -156,3 +156,20 @@ fn lent_again(rt: HostRuntime) {
     assert!(rt; !e.contains(1));
     pushes(&rt, &mut e, &[(1, 3, Ok(()))]);
 }
+
+#[test]
+fn walked(rt: HostRuntime) {
+    let mut nodes = [Node::new(0u8), Node::new(0), Node::new(0)];
+    let mut d = Deque::new(&mut nodes);
+    pushes(
+        &rt,
+        &mut d,
+        &[(1, 10, Ok(())), (2, 20, Ok(())), (0, 30, Ok(()))],
+    );
+    assert!(rt; d.move_to_back(2) == Ok(()));
+    for (item, want) in d.iter().zip([(1, 10), (0, 30), (2, 20)]) {
+        assert_eq!(rt; item, want);
+    }
+    assert!(rt; d.iter().last() == Some((2, 20)));
+    assert!(rt; d.iter().nth(3) == None);
+}
