@@ -133,15 +133,8 @@ impl<R: BufRead, W: Write, E: Write> Desk<R, W, E> {
     /// Writes the linked nodes with their elements, front first.
     fn list(&mut self, queue: &Deque<u64>) -> io::Result<()> {
         self.begin_list()?;
-        let mut at = queue.peek_front().map(|(node, _)| node);
-        for _ in 0..queue.len() {
-            let Some(node) = at else {
-                break;
-            };
-            if let Ok(element) = queue.get(node) {
-                self.list_item(Item { node, element })?;
-            }
-            at = queue.next(node).ok().flatten();
+        for (node, element) in queue.iter() {
+            self.list_item(Item { node, element })?;
         }
         self.end_list()
     }
