@@ -21,7 +21,7 @@ pub(crate) fn counter_of(word: u64, number: u32) -> u64
 }
 
 /// Raises a counter of a word unless it is 15, and says whether it rose.
-pub(crate) fn raise_in(word: &mut u64, number: u32) -> bool
+pub(crate) fn raise_counter(word: &mut u64, number: u32) -> bool
     requires { number < 16 }
     ensures word { word.new ≡ raised word.old number }
     ensures rose { result ≡ nat_lt (counter word.old number) most }

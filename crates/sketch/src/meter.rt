@@ -74,7 +74,7 @@ impl Meter {
         let mut rose = false;
         for (depth, seed) in SEED.iter().enumerate() {
             let index = self.index_of(hash, *seed);
-            rose |= counters::raise_in(&mut table[index], start + depth as u32);
+            rose |= counters::raise_counter(&mut table[index], start + depth as u32);
         }
         rose
     }

@@ -1,6 +1,6 @@
 use Rattle.std.proofs.Common.{arith}
 use Rattle.sketch.proofs.Word.{raise_fits, raise_is, raised_full}
-use Rattle.sketch.proofs.counters.raise_in.Goals as goal
+use Rattle.sketch.proofs.counters.raise_counter.Goals as goal
 
 pub overflow_add-word : goal.overflow_add-word
 overflow_add-word c = grind (arith, raise_fits)
