@@ -154,7 +154,6 @@ impl<'n, T: Copy> Deque<'n, T> {
     }
 
     /// Whether node i is linked.
-    #[tactic(auto, using(crate::proofs::Promises::once))]
     pub fn contains(&self, i: usize) -> bool
         ensures answer { result ≡ has (places (items self.now)) i }
         ensures once { EachOnce (lent self.now) (items self.now) }
@@ -224,6 +223,9 @@ impl<'n, T: Copy> Deque<'n, T> {
             _ => Err(Refusal::NotLinked),
         }
     }
+
+    // Here and in `cut` the nodes are written through a reference of their own, so that between the writes the links need
+    // not lie as the order says.
 
     /// Puts node i, with the element x, behind all others.
     #[tactic(auto, using(crate::proofs::Outcomes::last_here))]
