@@ -15,6 +15,7 @@ pub use calls::{open, serve_one};
 use deque::Deque;
 
 /// The names of those who can wait, by node number, the line that they wait in, and how many wait; the count is right.
+// Names stand beside the queue's nodes, with a count, to show how a layer above holds a queue beside memory of its own.
 #[derive(Drop)]
 pub struct Desk<'b, 'q, 'n> {
     names: &'b mut [u64],

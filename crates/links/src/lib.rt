@@ -20,6 +20,7 @@ pub struct Link {
     number: u32,
 }
 
+// No `From` either way: `Link::to(i)` and `target()` say at the place what is made, which `from` would not.
 impl Link {
     /// As many places can be led to: numbers below this one.
     pub const MOST: usize = NOWHERE as usize;

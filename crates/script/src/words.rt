@@ -25,6 +25,7 @@ fn leading_bytes(line: &[u8], blanks: bool) -> usize
 }
 
 /// The words of a line that are still to be read.
+// Bytes and no `str`: a line that is no text is answered like any other that is not well formed.
 #[derive(Clone, Copy)]
 pub struct Words<'a> {
     rest: &'a [u8],

@@ -17,6 +17,7 @@ pub fn ask_queue(queue: &mut Deque<u64>, command: QueueCommand) -> Answer
 }
 
 /// What a queue answers, unless it refuses.
+// A command is read off a line, so it is data: a closure for each would have to be made and handed out by the reader.
 fn asked(queue: &mut Deque<u64>, command: QueueCommand) -> Result<Answer, Refusal>
     ensures answer { told result ≡ queue_answer (lent queue.old) (items queue.old) command }
     ensures order { items queue.new ≡ queue_after (lent queue.old) (items queue.old) command }
