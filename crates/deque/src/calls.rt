@@ -17,7 +17,7 @@ use crate::refusal::Refusal;
 use links::Link;
 
 // The clauses size, owner and values stand at each call that writes: they compare the queue before with the queue after,
-// which no invariant of one queue can say, and crates above read them by these names.
+// which no invariant of one queue says, and a record of both would hide the names that crates above cite.
 
 impl<'n, T: Copy> Deque<'n, T> {
     /// An empty queue over the first nodes of the slice, 2^32 - 1 of them at most; each is taken out, and its element stays.

@@ -21,13 +21,12 @@ impl<T: Copy> Iterator for Iter<'_, T> {
 
     ghost remaining = { item_count coming };
 
+    /// The next linked node's number and element; none past the last.
     fn next(&mut self) -> Option<(usize, T)> {
-        if self.left == 0 {
-            return None;
-        }
+        let left = self.left.checked_sub(1)?;
         let i = self.next.target()?;
         let n = *self.nodes.get(i)?;
-        self.left -= 1;
+        self.left = left;
         self.next = n.next;
         Some((i, n.element))
     }

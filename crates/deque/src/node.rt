@@ -4,7 +4,7 @@ ghost use Rattle.deque.specs.Views.{view_of, out_with};
 
 use links::Link;
 
-// Numbered nodes in a lent slice, and links of 32 bits, since the project uses no heap; and a mark beside the element in
+// Numbered nodes in a lent slice, and links of 32 bits, since no part allocates; and a mark beside the element in
 // place of an Option, since the elements of nodes that are out stay.
 
 /// An element with its links; the mark says whether a queue has it in its order.

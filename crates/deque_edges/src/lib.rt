@@ -15,7 +15,7 @@ pub use calls::{open, serve_one};
 use deque::Deque;
 
 /// The names of those who can wait, by node number, the line that they wait in, and how many wait; the count is right.
-// Names stand beside the queue's nodes, with a count, to show how a layer above holds a queue beside memory of its own.
+// Names lie in lent memory of their own beside the queue's nodes: so a layer above has to hold a queue, with no heap.
 #[derive(Drop)]
 pub struct Desk<'b, 'q, 'n> {
     names: &'b mut [u64],

@@ -45,8 +45,8 @@ fn no_node_lent(rt: HostRuntime) {
 
 #[test]
 fn one_node(rt: HostRuntime) {
-    let mut nodes = [Node::new(0u8)];
-    let mut d = Deque::new(&mut nodes);
+    let mut nodes = [Node::new(0u8), Node::new(0), Node::new(0), Node::new(0)];
+    let mut d = Deque::new(&mut nodes[0..1]);
     assert!(rt; d.nodes_lent() == 1);
     pushes(
         &rt,

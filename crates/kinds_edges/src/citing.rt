@@ -30,22 +30,14 @@ pub fn same_through<K: EntryKind>(a: &K::Key, third: &K::Key, b: &K::Key) -> boo
 pub fn hash_of_other<K: EntryKind>(known: &K::Key, asked: &K::Key) -> Option<u64>
     ensures { result ≡ when (K.alike known.now asked.now) (K.hashed asked.now) }
 {
-    if K::same(known, asked) {
-        Some(K::hash(known))
-    } else {
-        None
-    }
+    K::same(known, asked).then(|| K::hash(known))
 }
 
 /// The weight of a key with a value, worked out from a key that is the same: by `weights`.
 pub fn weight_of_other<K: EntryKind>(known: &K::Key, asked: &K::Key, v: &K::Value) -> Option<u32>
     ensures { result ≡ when (K.alike known.now asked.now) (K.weighs asked.now v.now) }
 {
-    if K::same(known, asked) {
-        Some(K::weight(known, v))
-    } else {
-        None
-    }
+    K::same(known, asked).then(|| K::weight(known, v))
 }
 
 /// An entry is weighed, or counts as 1: by `light`.
@@ -67,9 +59,5 @@ pub fn adds_up<K: EntryKind>(k: &K::Key, v: &K::Value, l: &K::Key, w: &K::Value)
 pub fn hash_past_third<K: EntryKind>(a: &K::Key, third: &K::Key, b: &K::Key) -> Option<u64>
     ensures { result ≡ when (K.alike a.now third.now && K.alike b.now third.now) (K.hashed b.now) }
 {
-    if K::same(a, third) && K::same(b, third) {
-        Some(K::hash(a))
-    } else {
-        None
-    }
+    (K::same(a, third) && K::same(b, third)).then(|| K::hash(a))
 }

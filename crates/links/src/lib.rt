@@ -46,10 +46,6 @@ impl Link {
     pub fn target(self) -> Option<usize>
         ensures { result ≡ goes_to self }
     {
-        if self.number == NOWHERE {
-            None
-        } else {
-            Some(self.number as usize)
-        }
+        (self.number != NOWHERE).then_some(self.number as usize)
     }
 }

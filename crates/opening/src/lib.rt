@@ -26,6 +26,7 @@ const MOST_RECORDED: u64 = 0x1000_0000_0000;
 const MOST_CAPACITY: u64 = 0x1_0000_0000_0000;
 
 /// For how much the sketch opens.
+// `weighed` is a constant of the kind, and the definition has these four too: an `Option` of two of them says no more.
 pub fn opening_size(weighed: bool, entries: u64, recorded: u64, capacity: u64) -> u64
     ensures { result ≡ opening_size weighed (min entries (2 ^ 12)) (min recorded (2 ^ 44)) (min capacity (2 ^ 48)) }
 {

@@ -4,7 +4,6 @@ ghost use Rattle.script.specs.Texts.{text, reason, item_text};
 
 use crate::command::Fault;
 use refusals::Refusal;
-use std::error::Error;
 use std::fmt;
 
 /// What a line is answered.
@@ -91,8 +90,6 @@ impl fmt::Display for Fault {
         }
     }
 }
-
-impl Error for Fault {}
 
 /// One of the linked nodes in a list, with its element.
 #[derive(Clone, Copy)]

@@ -6,7 +6,7 @@ ghost use Rattle.script.specs.LineReadings.{line_of, named, comment_word};
 use crate::command::{Command, Fault};
 use crate::queue_lines::read_queue;
 use crate::sketch_lines::read_sketch;
-use crate::words::{Request, Words};
+use crate::words::{CommandWords, Words};
 
 /// What a line asks for; nothing where it has no word, or is a comment.
 pub fn read(line: &[u8]) -> Result<Option<Command>, Fault>
@@ -14,7 +14,9 @@ pub fn read(line: &[u8]) -> Result<Option<Command>, Fault>
 {
     let mut words = Words::of(line);
     match words.next() {
-        Some(name) if !is_comment(name) => read_named(Request { name, given: words }).map(Some),
+        Some(name) if !is_comment(name) => read_named(CommandWords { name, given: words }).map(
+            Some,
+        ),
         _ => Ok(None),
     }
 }
@@ -27,11 +29,11 @@ fn is_comment(word: &[u8]) -> bool
 }
 
 /// What a command asks for, with the words behind it.
-fn read_named(request: Request) -> Result<Command, Fault>
-    ensures { result ≡ named request.entry.name.now (words_of request.entry.given.rest.now) }
+fn read_named(asked: CommandWords) -> Result<Command, Fault>
+    ensures { result ≡ named asked.entry.name.now (words_of asked.entry.given.rest.now) }
 {
-    if let Some(command) = read_sketch(request)? {
+    if let Some(command) = read_sketch(asked)? {
         return Ok(command);
     }
-    read_queue(request)?.ok_or(Fault::UnknownCommand)
+    read_queue(asked)?.ok_or(Fault::UnknownCommand)
 }

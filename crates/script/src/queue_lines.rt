@@ -5,14 +5,14 @@ ghost use Rattle.script.specs.Readings.{asking_alone};
 ghost use Rattle.script.specs.QueueLines.{queue_reading};
 
 use crate::command::{Command, Fault, QueueCommand, fitting};
-use crate::words::{Request, Words};
+use crate::words::{CommandWords, Words};
 
 /// What a line asks of a queue; nothing where its command is none of a queue.
-pub fn read_queue(request: Request) -> Result<Option<Command>, Fault>
-    ensures { result ≡ queue_reading request.entry.name.now (words_of request.entry.given.rest.now) }
+pub fn read_queue(asked: CommandWords) -> Result<Option<Command>, Fault>
+    ensures { result ≡ queue_reading asked.entry.name.now (words_of asked.entry.given.rest.now) }
 {
-    let given = request.given;
-    match request.name {
+    let given = asked.given;
+    match asked.name {
         b"queue" => fitting(given.only_field(b"nodes=").map(Command::MakeQueue)),
         b"push" => fitting(
             given

@@ -24,7 +24,7 @@ fn leading_bytes(line: &[u8], blanks: bool) -> usize
         .unwrap_or(line.len())
 }
 
-/// The words of a line that are still to be read.
+/// The words of a line that are still to be read; copied, since one reader after the other goes over them.
 // Bytes and no `str`: a line that is no text is answered like any other that is not well formed.
 #[derive(Clone, Copy)]
 pub struct Words<'a> {
@@ -45,6 +45,7 @@ impl<'a> Iterator for Words<'a> {
         let line = &line[from..];
         let to = leading_bytes(line, false);
         self.rest = &line[to..];
+        // Two cases, as the words of a line are defined: by `then_some` the proof has to part them again.
         if to == 0 { None } else { Some(&line[0..to]) }
     }
 }
@@ -105,7 +106,7 @@ fn read_field(word: &[u8], name: &[u8]) -> Option<u64>
 
 /// A line that is no comment: its first word, which is its command, and the words behind it.
 #[derive(Clone, Copy)]
-pub struct Request<'a> {
+pub struct CommandWords<'a> {
     pub name: &'a [u8],
     pub given: Words<'a>,
 }

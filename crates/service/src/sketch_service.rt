@@ -8,7 +8,7 @@ use script::command::SketchCommand;
 use sketch::{FrequencySketch, Increment};
 
 /// Asks a sketch.
-// A command is read off a line, so it is data, and this is where it is done.
+// A command is read off a line, so it is data: a closure for each would have to be made and handed out by the reader.
 pub fn ask_sketch(sketch: &mut FrequencySketch, command: SketchCommand) -> Answer
     ensures answer { result ≡ sketch_answer (lent sketch.old) (meaning sketch.old) command }
     ensures memory { meaning sketch.new ≡ sketch_after (lent sketch.old) (meaning sketch.old) command }

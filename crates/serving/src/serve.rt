@@ -42,6 +42,7 @@ trait Part {
 struct Nothing;
 
 impl Part for Nothing {
+    /// Complains of every command.
     fn answer<R: BufRead, W: Write, E: Write>(
         &mut self,
         desk: &mut Desk<R, W, E>,
@@ -52,6 +53,7 @@ impl Part for Nothing {
 }
 
 impl Part for FrequencySketch<'_> {
+    /// Answers what is asked of a sketch.
     fn answer<R: BufRead, W: Write, E: Write>(
         &mut self,
         desk: &mut Desk<R, W, E>,
@@ -65,6 +67,7 @@ impl Part for FrequencySketch<'_> {
 }
 
 impl Part for Deque<'_, u64> {
+    /// Answers what is asked of a queue.
     fn answer<R: BufRead, W: Write, E: Write>(
         &mut self,
         desk: &mut Desk<R, W, E>,

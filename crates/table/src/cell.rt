@@ -15,6 +15,7 @@ pub struct Content<Value> {
 }
 
 /// What a held cell has: its meaning, whatever the layout.
+// The parts of a content stand flat in it: records and definitions above read an entry's weight and instants by name.
 #[derive(Clone, Copy)]
 pub struct Entry<Key, Value> {
     pub key: Key,

@@ -6,6 +6,8 @@ use crate::cell::{Cell, cell_at};
 use crate::walk::Walk;
 use links::Link;
 
+// Cells by their numbers in lent slices, since no part allocates.
+
 /// Cells in chains. Chain b starts at head b; the free cells that were used before are in a chain that starts at
 /// `free`; cells from `used` on were never used. `held` counts the cells that are held. The memory is sound, by the
 /// type: each used cell stands in exactly one chain.

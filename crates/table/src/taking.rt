@@ -31,6 +31,7 @@ impl<'m, Key: Copy, Value: Copy> Table<'m, Key, Value> {
         ensures { MatchOption result (entry_at (state self.now) i ≡ None) (Marked (state self.now) i) }
     {
         let c = self.cell(i)?;
+        // By `filter` and by `then_some` the clause was not found by the check, which asks for it in one case then.
         if c.held && i < self.used {
             Some(c)
         } else {

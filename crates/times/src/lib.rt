@@ -14,5 +14,5 @@ mod nanos;
 mod refusal;
 
 pub use expiry::{is_expired, is_expired_since};
-pub use nanos::{Duration, Instant, Nanos, Point, Span};
+pub use nanos::{Duration, Instant, MOST, Nanos, Point, Span};
 pub use refusal::Refusal;

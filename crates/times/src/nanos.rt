@@ -7,12 +7,12 @@ use std::alloc::AllocError;
 use std::marker::PhantomData;
 
 /// The largest number that is an instant or a duration: 2^62.
-const MOST: u64 = 4611686018427387904;
+pub const MOST: u64 = 4611686018427387904;
 
 /// So many nanoseconds: as a point in time, or as a length of time.
 pub struct Nanos<As> {
     nanos: u64,
-    as_what: PhantomData<As>,
+    marker: PhantomData<As>,
     ghost ok: { nanos ≤ 2 ^ 62 },
 }
 
@@ -52,7 +52,7 @@ impl<As> TryFrom<u64> for Nanos<As> {
         if nanos <= MOST {
             Ok(Nanos {
                 nanos,
-                as_what: PhantomData,
+                marker: PhantomData,
             })
         } else {
             Err(Refusal::BeyondRange)

@@ -10,8 +10,8 @@ use Rattle.deque.proofs.Memory.{length_views, nth_views}
 use Rattle.deque.proofs.Items.{item_comes, none_comes}
 use Rattle.deque.proofs.iter.IterIterator.next.Goals as goal
 
-first_comes : {T : Type 0} (w : Iter T) (i : ℕ) (n : Node T) → 0 < w.left → Some i ≡ goes_to w.next → i < length w.nodes.now → n ≡ get_or w.nodes.now i n → coming w ≡ (i, n.element) ∷ coming record { nodes = w.nodes; next = n.next; left = w.left - 1 }
-first_comes w i n l e h r = item_comes (views w.nodes.now) w.left i (view_of n) (goes_to w.next) l e (nth_views w.nodes.now i n (slice_get_read _ _ _ _ refl h r))
+first_comes : {T : Type 0} (w : Iter T) (m i : ℕ) (n : Node T) → m ≡ w.left - 1 → 0 < w.left → Some i ≡ goes_to w.next → i < length w.nodes.now → n ≡ get_or w.nodes.now i n → coming w ≡ (i, n.element) ∷ coming record { nodes = w.nodes; next = n.next; left = m }
+first_comes w m i n q l e h r = rw q (item_comes (views w.nodes.now) w.left i (view_of n) (goes_to w.next) l e (nth_views w.nodes.now i n (slice_get_read _ _ _ _ refl h r)))
 
 pub returns-in_err-n-clause-steps : goal.returns-in_err-n-clause-steps
 returns-in_err-n-clause-steps g c =
@@ -24,12 +24,12 @@ returns-in_err-n-clause-steps g c =
 pub returns-clause-steps : goal.returns-clause-steps
 returns-clause-steps g c =
     let a = c.in_ok-n.ensures.lookup in
-    let l = c.if-self-eq0.false in
-    first_comes c.args.self.now c.in_ok-i.i c.in_ok-n.field-0.now (omega arith) c.in_ok-i.ensures a.3.0 a.1
+    let l : 0 < c.args.self.now.left = omega (arith, c.in_ok-left.ensures) in
+    first_comes c.args.self.now c.in_ok-left.left c.in_ok-i.i c.in_ok-n.field-0.now (omega (arith, c.in_ok-left.ensures)) l c.in_ok-i.ensures a.3.0 a.1
 
 pub returns-clause-goes : goal.returns-clause-goes
 returns-clause-goes g c =
     let a = c.in_ok-n.ensures.lookup in
-    let l = c.if-self-eq0.false in
-    let e = ap length (first_comes c.args.self.now c.in_ok-i.i c.in_ok-n.field-0.now (omega arith) c.in_ok-i.ensures a.3.0 a.1) in
+    let l : 0 < c.args.self.now.left = omega (arith, c.in_ok-left.ensures) in
+    let e = ap length (first_comes c.args.self.now c.in_ok-left.left c.in_ok-i.i c.in_ok-n.field-0.now (omega (arith, c.in_ok-left.ensures)) l c.in_ok-i.ensures a.3.0 a.1) in
     record { on = λ _. (tt, tt, omega arith); keeps = tt; rests = λ _. tt }
