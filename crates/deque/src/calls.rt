@@ -68,7 +68,7 @@ impl<'n, T: Copy> Deque<'n, T> {
     }
 
     /// Takes the front out, and hands out its number and its element.
-    #[tactic(auto, using(crate::proofs::Outcomes::head_here, crate::proofs::Orderly::first_in_first_out))]
+    #[tactic(auto, using(crate::proofs::Outcomes::head_here))]
     pub fn pop_front(&mut self) -> Option<(usize, T)>
         ensures answer { result ≡ front (items self.old) }
         ensures order { items self.new ≡ rest (items self.old) }
@@ -93,7 +93,6 @@ impl<'n, T: Copy> Deque<'n, T> {
     }
 
     /// Moves node i behind all others; where it is the last, nothing is written. Refused (8) where it is not linked.
-    #[tactic(auto, using(crate::proofs::Promises::moves))]
     pub fn move_to_back(&mut self, i: usize) -> Result<(), Refusal>
         ensures answer { result ≡ when_linked self.old i }
         ensures number { refused_by result ≡ (if has (places (items self.old)) i then None else Some 8) }
@@ -115,7 +114,6 @@ impl<'n, T: Copy> Deque<'n, T> {
     }
 
     /// Takes node i out; its element stays. Refused (8) where it is not linked.
-    #[tactic(auto, using(crate::proofs::Orderly::unlink_then_push))]
     pub fn unlink(&mut self, i: usize) -> Result<(), Refusal>
         ensures answer { result ≡ when_linked self.old i }
         ensures number { refused_by result ≡ (if has (places (items self.old)) i then None else Some 8) }
@@ -133,7 +131,7 @@ impl<'n, T: Copy> Deque<'n, T> {
     }
 
     /// The node behind node i, none where it is the last. Refused (8) where it is not linked.
-    #[tactic(auto, using(crate::proofs::Promises::last_ends, crate::proofs::Outcomes::next_told))]
+    #[tactic(auto, using(crate::proofs::Outcomes::next_told))]
     pub fn next(&self, i: usize) -> Result<Option<usize>, Refusal>
         ensures answer { result ≡ next_answer self.now i }
         ensures number { refused_by result ≡ (if has (places (items self.now)) i then None else Some 8) }

@@ -1,5 +1,6 @@
 //! The calls.
 // `Lawful` stays a premise: no call asks (no `requires`), so a caller may give an unlawful weight.
+// Six calls pass on to `Table`, which knows no kind of key: so no proof of a write sees a trait.
 // `held` and `capacity` are said of the index before and after, so no type can carry them.
 ghost use Rattle.std.specs.Prelude.{◌≡◌, ℕ, ◌+◌, ◌<◌, true, length, is_some, if◌then◌else◌, Some, None, nat_eq, nat_lt};
 ghost use Rattle.links.specs.Places.{is, pick};

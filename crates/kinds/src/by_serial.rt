@@ -44,6 +44,7 @@ impl EntryKind for Serials {
 
     ghost bounded = { Prim.search rules };
 
+    // No derive says it: see the trait.
     fn same(a: &u64, b: &u64) -> bool {
         *a == *b
     }

@@ -48,6 +48,7 @@ impl EntryKind for Tags {
 
     ghost bounded = { Prim.search rules };
 
+    // No derive says it: see the trait.
     fn same(a: &u64, b: &u64) -> bool {
         folded_tag(*a) == folded_tag(*b)
     }

@@ -45,6 +45,7 @@ impl EntryKind for Rooms {
 
     ghost bounded = { Prim.search rules };
 
+    // No derive says it: see the trait.
     fn same(a: &u32, b: &u32) -> bool {
         *a / 16 == *b / 16
     }

@@ -14,7 +14,7 @@ ghost use Rattle.links.specs.Links.{goes_to, to_place, most};
 const NOWHERE: u32 = 0xffff_ffff;
 
 /// The way to a place, or to none.
-// Links of 32 bits are a rule of the project, and an `Option` of a number has a tag beside it.
+// 32 bits for each, by a rule of the project: an `Option` of a number has a tag beside it, and made moves slower.
 #[derive(Clone, Copy)]
 pub struct Link {
     number: u32,

@@ -13,9 +13,9 @@ use links::Link;
 /// type: each used cell stands in exactly one chain.
 #[derive(Drop)]
 pub struct Table<'m, Key, Value> {
-    pub(crate) cells: &'m mut [Cell<Key, Value>],
-    pub(crate) heads: &'m mut [Link],
-    pub(crate) free: Link,
+    pub cells: &'m mut [Cell<Key, Value>],
+    pub heads: &'m mut [Link],
+    pub free: Link,
     pub used: usize,
     pub held: usize,
     pub ghost sound: { Kept cells.now heads.now used free held },

@@ -31,12 +31,7 @@ impl<'m, Key: Copy, Value: Copy> Table<'m, Key, Value> {
         ensures { MatchOption result (entry_at (state self.now) i ≡ None) (Marked (state self.now) i) }
     {
         let c = self.cell(i)?;
-        // By `filter` and by `then_some` the clause was not found by the check, which asks for it in one case then.
-        if c.held && i < self.used {
-            Some(c)
-        } else {
-            None
-        }
+        (c.held && i < self.used).then_some(c)
     }
 
     /// The cell to take next: the one given up last, or else the first never used.

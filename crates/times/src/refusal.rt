@@ -5,7 +5,7 @@ ghost use Rattle.times.specs.Refusals.{refusal_of, refusal_number};
 /// What is wrong with a number that was to become an instant or a duration.
 #[derive(Clone, Copy, Debug, PartialEq, Eq)]
 pub enum Refusal {
-    // It is above 2^62.
+    /// It is above 2^62.
     BeyondRange,
 }
 

@@ -15,3 +15,12 @@ returns-clause-order g c = c.link.ensures.order ∙ moved_is c.args.self.now c.a
 
 pub returns-clause-stays : goal.returns-clause-stays
 returns-clause-stays g c = λ l. absurd (not_last c.args.self.now c.args.i c.target.result c.target.ensures (sym c.eq.ensures ∙ c.if-eq.false) l)
+
+pub returns-in_err-moved-clause-moves : goal.returns-in_err-moved-clause-moves
+returns-in_err-moved-clause-moves g c = moves c.args.self.now
+
+pub returns-then-eq-clause-moves : goal.returns-then-eq-clause-moves
+returns-then-eq-clause-moves g c = moves c.args.self.now
+
+pub returns-clause-moves : goal.returns-clause-moves
+returns-clause-moves g c = moves c.args.self.now
