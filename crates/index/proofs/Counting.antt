@@ -1,13 +1,11 @@
 -- How many cells are held, before and after a call.
-use Rattle.std.proofs.Common.{◌≡◌, ℕ, ◌+◌, ◌<◌, true, cond, eqb, ltb, List, length, is_some, Some, None, Option, sym, refl, ap, ◌∙◌, arith}
+use Rattle.std.proofs.Common.{◌≡◌, ℕ, ◌+◌, ◌<◌, true, cond, eqb, ltb, is_some, Some, None, Option, sym, refl, ap, ◌∙◌, arith}
 use Rattle.std.proofs.lemmas.Bool.{lt-ltb, le-ltb}
-use Rattle.table.specs.declared.cell.Cell.{Cell}
 use Rattle.table.specs.declared.cell.Entry.{Entry}
 use Rattle.links.specs.Places.{count}
-use Rattle.table.specs.Chain.{State, capacity_of, capacity, entry_at, live, Sound}
-use Rattle.table.specs.Calls.{Took, Emptied}
+use Rattle.table.specs.Chain.{State, capacity, entry_at, live, Sound}
+use Rattle.table.specs.Calls.{Took}
 use Rattle.links.proofs.Orders
-use Rattle.table.proofs.Soundness as sound
 
 module _ {A B : Type 0} where
   -- a cell that is not held leaves room

@@ -50,6 +50,6 @@ module _ {A B : Type 0} where
     beyond = λ j l. let u = h.size in outcomes.past_entry s j (omega arith);
   }
 
-  -- every table's memory lies so
-  pub laid : (t : Table A B) → ∥ Layout (state t) ∥₁
-  laid t = ∣ layout (state t) (sound.whole t) ∣₁
+  -- memory that is sound lies so
+  pub laid : (t : Table A B) → Sound (state t) → ∥ Layout (state t) ∥₁
+  laid t h = ∣ layout (state t) h ∣₁

@@ -16,8 +16,9 @@ use Rattle.index.proofs.Layouts
 use Rattle.index.proofs.Counting
 
 module _ {K A B : Type 0} {m : Ghosts K A B} (x : Index K A B m) where
-  whole : Sound (state x.table)
-  whole = sound.whole x.table
+  -- its memory is sound
+  pub whole : Sound (state x.table)
+  whole = sound.out (state x.table) x.sound
 
   -- its memory lies as the layout says
   pub laid : Layout (parts x)

@@ -15,7 +15,7 @@ use kinds::EntryKind;
 use links::Link;
 use table::{Cell, Content, Entry, Table};
 
-#[tactic(auto, using(crate::proofs::Layouts::laid), unfolding(crate::specs::Meaning::entries, crate::specs::Meaning::capacity_in, crate::specs::Meaning::held_in))]
+#[tactic(auto, unfolding(crate::specs::Meaning::entries, crate::specs::Meaning::capacity_in, crate::specs::Meaning::held_in))]
 impl<'m, K: EntryKind> Index<'m, K> {
     /// An index that holds nothing. It empties the heads, and leaves the cells as they are lent.
     pub fn new(cells: &'m mut [Cell<K::Key, K::Value>], heads: &'m mut [Link]) -> Index<'m, K>

@@ -4,7 +4,7 @@ use index::Index;
 use kinds::{Log, Reading, Serials, Tags};
 use links::Link;
 use std::process::Abort;
-use table::{Cell, Content, Entry};
+use table::{Cell, Content, Entry, Table};
 
 /// A cell as memory may be found: its mark says that it is held.
 fn found() -> Cell<u64, Reading> {
@@ -181,4 +181,35 @@ fn a_holder_holds_no_key_twice(rt: HostRuntime) {
     assert_eq!(rt; h.put(5, reading(1)), Some(0));
     assert_eq!(rt; h.put(5, reading(2)), Some(0));
     assert_eq!(rt; h.count(), 1);
+}
+
+/// A cell as memory may be found, with a link to this cell.
+fn found_before(cell: usize) -> Cell<u64, Reading> {
+    Cell {
+        chain: Link::to(cell),
+        ..found()
+    }
+}
+
+#[test]
+fn a_table_of_any_memory_is_safe(rt: HostRuntime) {
+    let mut cells = [found_before(1), found_before(1)];
+    let mut heads = [Link::to(0)];
+    let mut t = Table {
+        cells: &mut cells,
+        heads: &mut heads,
+        used: 9,
+        free: Link::to(7),
+        held: 5,
+    };
+    assert!(rt; t.capacity() == 2 && t.first(4) == Some(0) && t.cell(2).is_none());
+    assert!(rt; t.take(found().entry).is_none());
+    assert!(rt; t.get(1).is_some() && t.get(2).is_none());
+    assert!(rt; t.give_up(0).is_some() && t.held == 4);
+    assert!(rt; t.replace(1, content(reading(3), 2)).is_some());
+    assert!(rt; t.chain(4).last() == Some(1));
+    t.held = 0;
+    assert!(rt; t.give_up(1).is_some() && t.held == 0);
+    t.clear();
+    assert!(rt; t.get(0).is_none() && t.take(found().entry) == Some(0));
 }

@@ -1,5 +1,5 @@
 -- What each call makes of what is held: the records that the calls promise, from the states that the writes leave.
-use Rattle.std.proofs.Common.{◌≡◌, ℕ, ◌+◌, ◌-◌, ◌^◌, ◌%◌, ◌<◌, ◌≤◌, true, false, not, cond, eqb, ltb, List, [], ◌∷◌, length, set, is_some, Some, None, Option, sym, refl, ap, ◌∙◌, subst, inl, inr, arith, length-set}
+use Rattle.std.proofs.Common.{◌≡◌, ℕ, ◌+◌, ◌-◌, ◌%◌, ◌<◌, ◌≤◌, true, false, not, cond, eqb, ltb, List, [], ◌∷◌, length, set, is_some, Some, None, Option, sym, refl, ap, ◌∙◌, subst, inl, inr, arith, length-set}
 use Rattle.std.specs.List.{slice_get, last_or, take_while}
 use Rattle.std.proofs.lemmas.Bool.Decides.{nat_tests}
 use Rattle.std.proofs.lemmas.Bool.{cases_eq, cases_Bool, lt-ltb, le-ltb, ltb-true}
@@ -61,6 +61,10 @@ module _ {A B : Type 0} where
     heads = refl;
   }
 
+  -- as many are held as can be
+  pub full_took : (s : State A B) (e : Entry A B) → Sound s → capacity s ≤ s.held → Took s s e None
+  full_took s e h l = none_took s e h (Orders.full_count (live s) (capacity s) (let z = h.total in omega arith))
+
   -- no cell was given up, and none is left that was never used
   all_held : (s : State A B) → Sound s → goes_to s.free ≡ None → capacity s ≤ s.used → (j : ℕ) → j < capacity s → is_some (entry_at s j) ≡ true
   all_held s h f u j l =
@@ -92,6 +96,20 @@ module _ {A B : Type 0} where
   begin_took s e h l =
       joined_took s _ (s.used + 1) s.free s.used e refl (omega arith) (omega arith) (λ j d. sound.ltb_next j s.used d) (sound.new_entry s) (sound.begin_sound s e h l)
 
+  -- the cell of a vacancy can be taken
+  pub vacancy_within : (s : State A B) (v : Vacancy) → Some v ≡ vacancy_in s → v.place < capacity s
+  vacancy_within s v q = go (goes_to s.free) q
+    where
+      go : (o : Option ℕ) → Some v ≡ vacancy_of s o → v.place < capacity s
+      go (Some i) q = elim (cases_Bool (ltb i (capacity s))) [
+        | inl t ↦ let z : Some v ≡ Some (record { place = i; used = s.used; rest = chain_in (slice_get s.cs i) }) = rw t at q in let y : v ≡ record { place = i; used = s.used; rest = chain_in (slice_get s.cs i) } = cc in let x = ap (λ (w : Vacancy). w.place) y in let l = ltb-true i (capacity s) t in omega arith
+        | inr t ↦ let z : Some v ≡ None = rw t at q in let y : ◌≡◌ {A = ℕ} 0 1 = cc in absurd (never y)
+      ]
+      go None q = elim (cases_Bool (ltb s.used (capacity s))) [
+        | inl t ↦ let z : Some v ≡ Some (record { place = s.used; used = s.used + 1; rest = s.free }) = rw t at q in let y : v ≡ record { place = s.used; used = s.used + 1; rest = s.free } = cc in let x = ap (λ (w : Vacancy). w.place) y in let l = ltb-true s.used (capacity s) t in omega arith
+        | inr t ↦ let z : Some v ≡ None = rw t at q in let y : ◌≡◌ {A = ℕ} 0 1 = cc in absurd (never y)
+      ]
+
   -- a vacancy taken
   pub vacancy_took : (s t : State A B) (v : Vacancy) (e : Entry A B) → Sound s → Some v ≡ vacancy_in s → t ≡ join_state (freed s v.used v.rest) v.place e → Took s t e (Some v.place)
   vacancy_took s t v e h q w = subst (λ (x : State A B). Took s x e (Some v.place)) (sym w) (go (goes_to s.free) refl q)
@@ -118,26 +136,6 @@ module _ {A B : Type 0} where
       → hs ≡ set s.hs b (to_place v.place)
       → Took s (record { cs = cs; hs = hs; used = v.used; free = v.rest; held = s.held + 1 }) e (Some v.place)
   taken s v e b cs hs h q n c l = vacancy_took s _ v e h q (rw (c, l, n))
-
-  -- the first free cell is a vacancy
-  pub vacancy_free : (s : State A B) (i : ℕ) (c : Cell A B) → Sound s → Some i ≡ goes_to s.free → Some c ≡ slice_get s.cs i → Some (record { place = i; used = s.used; rest = c.chain }) ≡ vacancy_in s
-  vacancy_free s i c h f e =
-      let u = sound.free_used s h i (sym f) in
-      let z = h.size in
-      let t : ltb i (capacity s) ≡ true = lt-ltb i (capacity s) (omega arith) in
-      let a : Some (record { place = i; used = s.used; rest = c.chain }) ≡ vacancy_of s (Some i) = rw t (ap (λ (o : Option (Cell A B)). reused o) e) in
-      a ∙ ap (vacancy_of s) f
-    where
-      reused : Option (Cell A B) → Option Vacancy
-      reused o = Some (record { place = i; used = s.used; rest = chain_in o })
-
-  -- one more can be counted
-  pub held_fits : (s : State A B) → Sound s → s.held + 1 < 2 ^ 64
-  held_fits s h =
-      let a = Orders.count_all (live s) (capacity s) in
-      let b = sound.capacity_most (length s.cs) (length s.hs) in
-      let t = h.total in
-      omega arith
 
   -- no vacancy
   pub no_vacancy_took : (s : State A B) (e : Entry A B) → Sound s → None ≡ vacancy_in s → Took s s e None
@@ -224,18 +222,19 @@ module _ {A B : Type 0} where
       hs_at None = length-set s.hs b c.chain
       hs_at (Some x) = refl
 
-  pub parted : (s : State A B) (i : ℕ) (c : Cell A B) (p : Option ℕ) (b : ℕ) (cs : List (Cell A B)) (hs : List Link) (f : Link) → Sound s → Marked s i c
+  pub parted : (s : State A B) (i : ℕ) (c : Cell A B) (p : Option ℕ) (b : ℕ) (cs : List (Cell A B)) (hs : List Link) (f : Link) (n : ℕ) → Sound s → Marked s i c
       → b ≡ c.entry.hash % length s.hs
       → p ≡ last_or None (take_while (λ j. not (eqb j i)) (chain_from s c.entry.hash))
       → cs ≡ set (edited_at (chain_to c.chain) s.cs p) i (emptied c.entry s.free)
       → hs ≡ pick p (set s.hs b c.chain) s.hs
       → (i < most → f ≡ to_place i)
-      → Parted s (record { cs = cs; hs = hs; used = s.used; free = f; held = s.held - 1 }) i (Some c.entry)
-  parted s i c p b cs hs f h m n q e l k =
+      → n ≡ s.held - 1
+      → Parted s (record { cs = cs; hs = hs; used = s.used; free = f; held = n }) i (Some c.entry)
+  parted s i c p b cs hs f n h m u q e l k d =
       let w = m.within in
       let z = sound.capacity_most (length s.cs) (length s.hs) in
       let y = k (omega arith) in
-      part_parted s _ i c p h m q (rw (e, l, n, y))
+      part_parted s _ i c p h m q (rw (e, l, u, y, d))
 
   -- ---- renewing
   pub none_renewed : (s : State A B) (i : ℕ) (c : Content B) → Sound s → entry_at s i ≡ None → Renewed s s i c None

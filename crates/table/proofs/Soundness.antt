@@ -8,12 +8,10 @@ use Rattle.std.proofs.lemmas.Bool.Decides.{nat_tests}
 use Rattle.std.proofs.lemmas.Bool.{cases_eq, cases_Bool, eqb-true, lt-ltb, ltb-true}
 use Rattle.table.specs.declared.cell.Cell.{Cell}
 use Rattle.table.specs.declared.cell.Entry.{Entry}
-use Rattle.table.specs.declared.lent.Table.{Table}
 use Rattle.links.specs.declared.Link.{Link}
 use Rattle.links.specs.Links.{most, goes_to, to_place}
 use Rattle.links.specs.Places.{is, pick, first, has, before, count}
 use Rattle.table.specs.Chain.{State, capacity_of, capacity, link_in, spot_in, entry_in, link, spot, entry_at, live, head_in, head_of, head_at, Chain, chain, Sound}
-use Rattle.table.specs.Meaning.{state}
 use Rattle.table.specs.Edits.{edited_at, chain_to, filled, emptied, link_or, join_state, freed, part_state, renew_state}
 use Rattle.links.proofs.Orders
 use Rattle.table.proofs.Memory
@@ -88,9 +86,8 @@ module _ {A B : Type 0} where
       le_prop : IsProp (s.used ≤ capacity s)
       le_prop = order.le_prop
 
-  -- every table's memory is sound
-  pub whole : (t : Table A B) → Sound (state t)
-  whole t = ∥∥₁_elim t.sound (sound_prop (state t)) (λ x. x)
+  pub out : (s : State A B) → ∥ Sound s ∥₁ → Sound s
+  out s t = ∥∥₁_elim t (sound_prop s) (λ x. x)
 
   -- ---- where a cell stands
   pub spot_used : (s : State A B) (j b : ℕ) → is (spot s j) b ≡ true → j < s.used

@@ -114,7 +114,3 @@ pub record Sound {A B : Type 0} (s : State A B) : Type 0 where
   pub chains : (b : ℕ) → Chain (link s) (head_at s b) (λ j. is (spot s j) b) (chain s b)
   pub size : s.used ≤ capacity s
   pub total : s.held ≡ count (live s) (capacity s)
-
--- the same of memory, as a ghost field keeps it
-abbrev pub Kept : {A B : Type 0} → List (Cell A B) → List Link → ℕ → Link → ℕ → Type 0
-Kept cs hs u f n = ∥ Sound (record { cs = cs; hs = hs; used = u; free = f; held = n }) ∥₁

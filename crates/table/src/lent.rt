@@ -1,6 +1,5 @@
 //! The lent cells and heads, and how they are read.
 ghost use Rattle.std.specs.Prelude.{◌≡◌, ◌%◌, ◌<◌};
-ghost use Rattle.table.specs.Chain.{Kept};
 
 use crate::cell::{Cell, cell_at};
 use crate::walk::Walk;
@@ -9,16 +8,15 @@ use links::Link;
 // Cells by their numbers in lent slices, since no part allocates.
 
 /// Cells in chains. Chain b starts at head b; the free cells that were used before are in a chain that starts at
-/// `free`; cells from `used` on were never used. `held` counts the cells that are held. The memory is sound, by the
-/// type: each used cell stands in exactly one chain.
+/// `free`; cells from `used` on were never used. `held` counts the cells that are held. No literal owes that: any
+/// memory with any numbers is a table, and every call is safe on it.
 #[derive(Drop)]
 pub struct Table<'m, Key, Value> {
     pub cells: &'m mut [Cell<Key, Value>],
     pub heads: &'m mut [Link],
-    pub free: Link,
     pub used: usize,
+    pub free: Link,
     pub held: usize,
-    pub ghost sound: { Kept cells.now heads.now used free held },
 }
 
 /// The remainder of a by n, as a mask where n is a power of two.

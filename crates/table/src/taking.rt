@@ -1,7 +1,7 @@
-//! The calls: each does what its record says, on every table.
+//! The calls: each is safe on any memory, and does what its record says where the memory is `Sound`.
 ghost use Rattle.std.specs.Prelude.{◌≡◌, length, None, MatchOption, not, ◌==◌};
 ghost use Rattle.std.specs.List.{last_or, take_while};
-ghost use Rattle.table.specs.Chain.{entry_at};
+ghost use Rattle.table.specs.Chain.{entry_at, Sound};
 ghost use Rattle.table.specs.Calls.{Marked, vacancy_in, Took, Parted, Renewed, Emptied};
 ghost use Rattle.table.specs.Meaning.{state, chain_from};
 
@@ -28,10 +28,13 @@ impl<'m, Key: Copy, Value: Copy> Table<'m, Key, Value> {
 
     /// Cell i, if it is held.
     fn held_cell(&self, i: usize) -> Option<Cell<Key, Value>>
-        ensures { MatchOption result (entry_at (state self.now) i ≡ None) (Marked (state self.now) i) }
+        ensures { MatchOption result (Sound (state self.now) → entry_at (state self.now) i ≡ None) (Marked (state self.now) i) }
     {
+        if i >= self.used || i >= self.capacity() {
+            return None;
+        }
         let c = self.cell(i)?;
-        (c.held && i < self.used).then_some(c)
+        c.held.then_some(c)
     }
 
     /// The cell to take next: the one given up last, or else the first never used.
@@ -40,6 +43,9 @@ impl<'m, Key: Copy, Value: Copy> Table<'m, Key, Value> {
     {
         match self.free.target() {
             Some(place) => {
+                if place >= self.capacity() {
+                    return None;
+                }
                 let c = self.cell(place)?;
                 Some(Vacancy {
                     place,
@@ -58,8 +64,11 @@ impl<'m, Key: Copy, Value: Copy> Table<'m, Key, Value> {
 
     /// Takes a free cell for this entry; none where every cell is held.
     pub fn take(&mut self, entry: Entry<Key, Value>) -> Option<usize>
-        ensures { Took (state self.old) (state self.new) entry result }
+        ensures { Sound (state self.old) → Took (state self.old) (state self.new) entry result }
     {
+        if self.held >= self.capacity() {
+            return None;
+        }
         let v = self.vacancy()?;
         let b = self.bucket(entry.hash);
         join(self.cells, self.heads, v.place, b, entry);
@@ -78,7 +87,7 @@ impl<'m, Key: Copy, Value: Copy> Table<'m, Key, Value> {
 
     /// Gives cell i up: the entry that it held, if it was held.
     pub fn give_up(&mut self, i: usize) -> Option<Entry<Key, Value>>
-        ensures { Parted (state self.old) (state self.new) i result }
+        ensures { Sound (state self.old) → Parted (state self.old) (state self.new) i result }
     {
         let c = self.held_cell(i)?;
         let b = self.bucket(c.entry.hash);
@@ -86,13 +95,13 @@ impl<'m, Key: Copy, Value: Copy> Table<'m, Key, Value> {
         let free = self.free;
         part(self.cells, self.heads, i, c, p, b, free);
         self.free = Link::to(i);
-        self.held -= 1;
+        self.held = self.held.saturating_sub(1);
         Some(c.entry)
     }
 
     /// Another content for the entry of cell i: the entry as it was, if the cell is held.
     pub fn replace(&mut self, i: usize, content: Content<Value>) -> Option<Entry<Key, Value>>
-        ensures { Renewed (state self.old) (state self.new) i content result }
+        ensures { Sound (state self.old) → Renewed (state self.old) (state self.new) i content result }
     {
         let c = self.held_cell(i)?;
         let entry = c.entry.renewed(content);
@@ -102,7 +111,7 @@ impl<'m, Key: Copy, Value: Copy> Table<'m, Key, Value> {
 
     /// The entry of cell i, if it is held.
     pub fn get(&self, i: usize) -> Option<Entry<Key, Value>>
-        ensures { result ≡ entry_at (state self.now) i }
+        ensures { Sound (state self.now) → result ≡ entry_at (state self.now) i }
     {
         Some(self.held_cell(i)?.entry)
     }

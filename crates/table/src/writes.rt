@@ -1,6 +1,6 @@
 //! The writes that a call is made of: each says what memory it leaves.
-// Cells and heads come as two slices, and a place below their length: one call lends both, so that the table owes its
-// fact once, after that call, and no type ties a number to a slice.
+// Cells and heads come as two slices, and a place below their length: one call says what both hold after it, and no
+// type ties a number to a slice.
 ghost use Rattle.std.specs.Prelude.{◌≡◌, ℕ, ◌<◌, length, slice_set, None};
 ghost use Rattle.std.specs.List.{slice_get};
 ghost use Rattle.links.specs.Links.{most, to_place};

@@ -5,8 +5,8 @@ use Rattle.std.proofs.lemmas.Iterator.Search.{find_from_yields_List}
 use Rattle.std.proofs.lemmas.Iterator.Adapters.{option_map_id}
 use Rattle.table.specs.Chain.{key_of}
 use Rattle.table.specs.Meaning.{state, chain_from, to_come}
-use Rattle.table.proofs.Soundness as sound
 use Rattle.index.specs.Meaning.{entries}
+use Rattle.index.proofs.Promises.{whole}
 use Rattle.index.proofs.Finding.{seek_is, find_held, find_found, Walked}
 use Rattle.index.proofs.kept.Index.find.Goals as goal
 
@@ -14,7 +14,7 @@ pub returns : goal.returns
 unfolding entries
 returns g c =
     let s = state c.args.self.now.table in
-    let h = sound.whole c.args.self.now.table in
+    let h = whole c.args.self.now in
     let m = g.K.EntryKind in
     let w = g.met.K.EntryKind in
     let f = key_of m.alike s.cs c.args.key.now in

@@ -2,8 +2,5 @@ use Rattle.std.proofs.Common.{refl}
 use Rattle.table.proofs.Outcomes.{emptied_is}
 use Rattle.table.proofs.lent.Table.clear.Goals as goal
 
-pub invariant_of-self : goal.invariant_of-self
-invariant_of-self g c = record { sound = ∣ (emptied_is c.args.self.now.cells.now c.clear_heads.new.heads _ c.none-self.result _ refl c.none-self.ensures c.clear_heads.auto.heads c.clear_heads.ensures).sound ∣₁ }
-
 pub returns : goal.returns
 returns g c = emptied_is c.args.self.now.cells.now c.clear_heads.new.heads _ c.none-self.result _ refl c.none-self.ensures c.clear_heads.auto.heads c.clear_heads.ensures
