@@ -1,6 +1,5 @@
 -- What each answer says, byte for byte.
 use Rattle.std.specs.Prelude.{ℕ, List, ◌++◌, codes, decimal}
-use Rattle.refusals.specs.Numbers.{refusal_number}
 use Rattle.script.specs.declared.answer.Answer.{Answer}
 use Rattle.script.specs.declared.answer.Answer.TheVariants.{Error, Made, Refused, Opened, Closed, Counted, Halved, Full, Estimate, Pushed, Popped, Front, Empty, Moved, Unlinked, Next, Last, Yes, No}
 use Rattle.script.specs.declared.answer.Item.{Item}
@@ -10,7 +9,7 @@ use Rattle.script.specs.declared.command.Fault.TheVariants.{UnknownCommand, Wron
 abbrev pub text : Answer → List ℕ
 text Error = codes "error"
 text Made = codes "made"
-text (Refused refusal) = codes "refused " ++ decimal (refusal_number refusal)
+text (Refused number) = codes "refused " ++ decimal number
 text (Opened words sample) = codes "opened " ++ (decimal words ++ (codes " " ++ decimal sample))
 text Closed = codes "closed"
 text (Counted size) = codes "counted " ++ decimal size

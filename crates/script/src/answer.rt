@@ -3,7 +3,6 @@ ghost use Rattle.std.specs.Prelude.{Some};
 ghost use Rattle.script.specs.Texts.{text, reason, item_text};
 
 use crate::command::Fault;
-use refusals::Refusal;
 use std::fmt;
 
 /// What a line is answered.
@@ -13,8 +12,9 @@ pub enum Answer {
     Error,
     /// What was asked for is made.
     Made,
-    /// The call was refused.
-    Refused(Refusal),
+    // A number and no `Refusal`, which has nine: whoever answers may tell any.
+    /// The call was refused, with this number.
+    Refused(u8),
     /// The sketch has so many words, and a sample of so many.
     Opened(usize, u64),
     /// The sketch has no words.
@@ -56,7 +56,7 @@ impl fmt::Display for Answer {
         match *self {
             Answer::Error => f.write_str("error"),
             Answer::Made => f.write_str("made"),
-            Answer::Refused(refusal) => write!(f, "refused {}", refusal.number()),
+            Answer::Refused(number) => write!(f, "refused {number}"),
             Answer::Opened(words, sample) => write!(f, "opened {words} {sample}"),
             Answer::Closed => f.write_str("closed"),
             Answer::Counted(size) => write!(f, "counted {size}"),

@@ -5,9 +5,10 @@ use Rattle.script.specs.declared.answer.Answer.{Answer}
 use Rattle.script.specs.declared.answer.Answer.TheVariants as answer
 use Rattle.script.specs.declared.command.QueueCommand.{QueueCommand}
 use Rattle.script.specs.declared.command.QueueCommand.TheVariants.{Push, Pop, Front, Back, Unlink, Next, Member}
-use Rattle.refusals.specs.declared.Refusal.{Refusal}
+use Rattle.refusals.specs.declared.Refusal as all
+use Rattle.refusals.specs.Numbers as all_numbers
 use Rattle.deque.specs.declared.refusal.Refusal.TheVariants.{NotLinked, NotFree}
-use Rattle.deque.specs.Refusals.{refusal_of}
+use Rattle.deque.specs.Refusals.{refusal_number}
 use Rattle.links.specs.Places.{has, after}
 use Rattle.deque.specs.Meaning.{places, pushed, dropped, front, rest, moved, free}
 
@@ -33,18 +34,18 @@ abbrev pub next_answer : Option ℕ → Answer
 next_answer None = answer.Last
 next_answer (Some j) = answer.Next j
 
--- the answer, or the refusal as an answer
-abbrev pub told : Result Answer Refusal → Answer
+-- the answer, or the number of the refusal as an answer
+abbrev pub told : Result Answer all.Refusal → Answer
 told (Ok a) = a
-told (Err e) = answer.Refused e
+told (Err e) = answer.Refused (all_numbers.refusal_number e)
 
 -- an answer where node i is linked, and the refusal where it is not
 abbrev pub if_linked : List (ℕ × ℕ) → ℕ → Answer → Answer
-if_linked ps i a = cond (has (places ps) i) a (answer.Refused (refusal_of NotLinked))
+if_linked ps i a = cond (has (places ps) i) a (answer.Refused (refusal_number NotLinked))
 
 -- the answer to a command
 abbrev pub queue_answer : ℕ → List (ℕ × ℕ) → QueueCommand → Answer
-queue_answer n ps (Push i x) = cond (free n ps i) answer.Pushed (answer.Refused (refusal_of NotFree))
+queue_answer n ps (Push i x) = cond (free n ps i) answer.Pushed (answer.Refused (refusal_number NotFree))
 queue_answer n ps Pop = popped_answer (front ps)
 queue_answer n ps Front = front_answer (front ps)
 queue_answer n ps (Back i) = if_linked ps i answer.Moved

@@ -13,7 +13,7 @@ pub fn ask_queue(queue: &mut Deque<u64>, command: QueueCommand) -> Answer
     ensures answer { result ≡ queue_answer (lent queue.old) (items queue.old) command }
     ensures order { items queue.new ≡ queue_after (lent queue.old) (items queue.old) command }
 {
-    asked(queue, command).unwrap_or_else(Answer::Refused)
+    asked(queue, command).unwrap_or_else(|why| Answer::Refused(why.number()))
 }
 
 /// What a queue answers, unless it refuses.

@@ -120,7 +120,7 @@ impl<R: BufRead, W: Write, E: Write> Desk<R, W, E> {
             self.say(Answer::Made)?;
             Ok(Making::Sketch(count))
         } else {
-            self.say(Answer::Refused(Refusal::SketchWords))?;
+            self.say(Answer::Refused(Refusal::SketchWords.number()))?;
             Ok(Making::Sketch(0))
         }
     }
