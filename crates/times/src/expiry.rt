@@ -25,8 +25,9 @@ pub fn is_expired(span: Option<Duration>, from: Instant, now: Instant) -> bool
 }
 
 /// The same from a plain number, as it lies in memory; one that is no instant is never reached.
+// A number from memory has no bound, so the sum stops at the largest number, which no instant reaches.
 pub fn is_expired_since(span: Option<Duration>, from: u64, now: Instant) -> bool
     ensures { result ≡ expired (span_of span) from now.nanos }
 {
-    span.is_some_and(|d| from <= now.nanos() && d.nanos() <= now.nanos() - from)
+    span.is_some_and(|d| from.saturating_add(d.nanos()) <= now.nanos())
 }
