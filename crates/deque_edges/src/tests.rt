@@ -32,8 +32,8 @@ fn refusal_numbers(rt: HostRuntime) {
 
 #[test]
 fn no_node_lent(rt: HostRuntime) {
-    let mut nodes: [Node<u8>; 0] = [];
-    let mut d = Deque::new(&mut nodes);
+    let mut nodes = [Node::new(0u8), Node::new(0), Node::new(0), Node::new(0)];
+    let mut d = Deque::new(&mut nodes[0..0]);
     assert!(rt; d.nodes_lent() == 0);
     pushes(&rt, &mut d, &[(0, 1, Err(Refusal::NotFree))]);
     assert!(rt; d.unlink(0) == Err(Refusal::NotLinked));
@@ -68,8 +68,8 @@ fn one_node(rt: HostRuntime) {
 
 #[test]
 fn all_linked(rt: HostRuntime) {
-    let mut nodes = [Node::new(0u8), Node::new(0), Node::new(0)];
-    let mut d = Deque::new(&mut nodes);
+    let mut nodes = [Node::new(0u8), Node::new(0), Node::new(0), Node::new(0)];
+    let mut d = Deque::new(&mut nodes[0..3]);
     assert!(rt; d.nodes_lent() == 3);
     pushes(
         &rt,
@@ -95,8 +95,8 @@ fn all_linked(rt: HostRuntime) {
 
 #[test]
 fn greatest_number(rt: HostRuntime) {
-    let mut nodes = [Node::new(0u8), Node::new(0)];
-    let mut d = Deque::new(&mut nodes);
+    let mut nodes = [Node::new(0u8), Node::new(0), Node::new(0), Node::new(0)];
+    let mut d = Deque::new(&mut nodes[0..2]);
     assert!(rt; d.nodes_lent() == 2);
     pushes(
         &rt,
